@@ -14,6 +14,7 @@ mod place;
 mod refusal;
 mod sink;
 mod tree;
+mod types;
 
 pub use file::File;
 pub use list::List;
@@ -26,3 +27,4 @@ pub use place::Place;
 pub use refusal::{Fault, Refusal};
 pub use sink::{Sink, SinkFault};
 pub use tree::{Listing, Tree, TreeFault};
+pub use types::{PgType, Scalar};

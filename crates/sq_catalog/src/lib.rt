@@ -1,0 +1,10 @@
+//! The catalogue that the migrations of a project give: its tables with their columns.
+#![tactic(auto)]
+
+mod catalogue;
+mod change;
+mod table;
+
+pub use catalogue::Catalogue;
+pub use change::{Change, ChangeFault};
+pub use table::{Column, DomainType, EnumType, Key, Table};

@@ -1,5 +1,5 @@
 -- The calls of an object in memory, some of which are to fail.
-use Rattle.std.specs.Prelude.{◌≡◌, ◌<◌, ◌^◌, ℕ, Bool, nat_eq, List, if◌then◌else◌}
+use Rattle.std.specs.Prelude.{ℕ, Bool, nat_eq, List, if◌then◌else◌}
 use Rattle.std.specs.List.{list_any}
 use Rattle.sq_base.specs.Counts.{raised}
 

@@ -1,5 +1,5 @@
 -- What the objects in memory tell.
-use Rattle.std.specs.Prelude.{◌≡◌, ℕ, List, [], ◌∷◌, ◌++◌, Option, None, Some, if◌then◌else◌}
+use Rattle.std.specs.Prelude.{ℕ, List, [], ◌∷◌, Some, if◌then◌else◌}
 use Rattle.std.specs.Str.{bytes_eq}
 use Rattle.sq_base.specs.Calls.{CallLog}
 use Rattle.sq_base.specs.Tree.{TreeState}

@@ -3,7 +3,12 @@
 #![tactic(auto)]
 
 mod calls;
+mod casts;
+mod categories;
+mod constant;
+mod conversion;
 mod file;
+mod folding;
 mod list;
 mod memory_out;
 mod memory_sink;
@@ -13,10 +18,17 @@ mod out;
 mod place;
 mod refusal;
 mod sink;
+#[cfg(test)]
+mod tests;
 mod tree;
 mod types;
 
+pub use casts::cast;
+pub use categories::{category, is_base, preferred};
+pub use constant::constant_type;
+pub use conversion::{Cast, Category};
 pub use file::File;
+pub use folding::fold;
 pub use list::List;
 pub use memory_out::MemoryOut;
 pub use memory_sink::MemorySink;
@@ -27,4 +39,6 @@ pub use place::Place;
 pub use refusal::{Fault, Refusal};
 pub use sink::{Sink, SinkFault};
 pub use tree::{Listing, Tree, TreeFault};
-pub use types::{PgType, Scalar};
+pub use types::{
+    CIDR, CITEXT, HSTORE, INET, LTREE, MACADDR, MONEY, POINT, PgType, Scalar, TSVECTOR, XML,
+};

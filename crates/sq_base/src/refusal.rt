@@ -1,4 +1,7 @@
+ghost use Rattle.std.specs.Prelude.{◌≡◌};
+
 use crate::{Name, Place};
+use std::alloc::AllocError;
 
 /// Why an input is refused: the number of the refusal, its place, and the texts that its line keeps.
 #[derive(Debug, Drop)]
@@ -17,4 +20,14 @@ pub enum Fault {
     Refused(Refusal),
     /// Memory was wanting.
     Memory,
+}
+
+impl From<AllocError> for Fault {
+    ghost use Rattle.sq_base.specs.declared.refusal.Fault.TheVariants.{Memory};
+
+    ghost from_gives = { λ _ fault. fault ≡ Memory };
+
+    fn from(_error: AllocError) -> Fault {
+        Fault::Memory
+    }
 }

@@ -1,4 +1,4 @@
-use Rattle.std.proofs.Common.{rules, refl, ap, arith}
+use Rattle.std.proofs.Common.{rules}
 use Rattle.sq_base.proofs.Held.{put_here, put_elsewhere}
 use Rattle.sq_base.proofs.memory_out.MemoryOutOut.put.Goals as goal
 

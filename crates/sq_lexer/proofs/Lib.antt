@@ -1,0 +1,13 @@
+pub mod QuoteMarks
+pub mod Runs
+pub mod Verdicts
+pub mod FirstMark
+pub mod Dollars
+pub mod Complete
+pub mod Sound
+pub mod Next
+pub mod Reaches
+pub mod PlaceLemmas
+pub mod ReadingLemmas
+pub mod SignLemmas
+pub mod OneReading

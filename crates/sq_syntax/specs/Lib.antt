@@ -1,0 +1,4 @@
+pub mod Bytes
+pub mod Classes
+pub mod Items
+pub mod Tokens

@@ -1,5 +1,6 @@
 -- The catalogue's step: what a change makes of it.
-use Rattle.std.specs.Prelude.{◌≡◌, ⊤, ℕ, ◌&&◌, Bool, List, [], ◌∷◌, ◌++◌, length, Option, None, Some, find, position, Result, Ok, Err}
+use Rattle.std.specs.Prelude.{◌≡◌, ℕ, ◌&&◌, Bool, List, [], ◌∷◌, ◌++◌, length, Option, None, Some, find, position, slice_get, Result, Ok, Err}
+use Rattle.std.specs.Option.{option_map, option_and_then}
 use Rattle.std.specs.Str.{bytes_eq}
 use Rattle.sq_catalog.specs.Contents.{Contents}
 use Rattle.sq_catalog.specs.declared.table.Column.{Column}
@@ -21,14 +22,30 @@ is_named table schema name = bytes_eq table.schema schema && bytes_eq table.name
 abbrev pub table_named : Contents → List ℕ → List ℕ → Option Table
 table_named c schema name = find (λ (table : Table). is_named table schema name) c.tables
 
+-- the place of the table of this name in this schema
+abbrev pub place_of_table : Contents → List ℕ → List ℕ → Option ℕ
+place_of_table c schema name = position (λ (table : Table). is_named table schema name) c.tables
+
+-- something with its place, where a list has the place
+abbrev pub placed : {A : Type 0} → List A → Option ℕ → Option (ℕ × A)
+placed xs place = option_and_then (λ at. option_map (λ x. (at, x)) (slice_get xs at)) place
+
+-- the table of this name in this schema, with its place
+abbrev pub placed_table : Contents → List ℕ → List ℕ → Option (ℕ × Table)
+placed_table c schema name = placed c.tables (place_of_table c schema name)
+
 -- the place of a table's column of this name
 abbrev pub place_of_column : Table → List ℕ → Option ℕ
 place_of_column table name = position (λ (column : Column). bytes_eq column.name name) table.columns
 
+-- a table's column of this name, with its place
+abbrev pub placed_column : Table → List ℕ → Option (ℕ × Column)
+placed_column table name = placed table.columns (place_of_column table name)
+
 -- the catalogue with one more table, whose id is the next
 abbrev pub with_table : Contents → List ℕ → List ℕ → List Column → Contents
 with_table c schema name columns = record c {
-  tables = c.tables ++ record { id = length c.tables; schema = schema; name = name; columns = columns; key = None } ∷ []
+  tables = c.tables ++ record { id = length c.tables; schema = schema; name = name; columns = columns; key = None } ∷ [];
 }
 
 -- a change is made, or refused because the name is taken

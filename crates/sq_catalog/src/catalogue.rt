@@ -1,6 +1,6 @@
-ghost use Rattle.std.specs.Prelude.{◌≡◌, ◌<◌, ◌^◌, [], IfOk, IfSome, OnErr, length, slice_get};
+ghost use Rattle.std.specs.Prelude.{◌≡◌, ◌<◌, ◌^◌, [], IfOk, IfSome, MatchOption, None, Some, length, slice_get};
 ghost use Rattle.std.specs.Option.{option_copied};
-ghost use Rattle.sq_catalog.specs.Catalogue.{empty, is_named, table_named, place_of_column, Steps};
+ghost use Rattle.sq_catalog.specs.Catalogue.{empty, is_named, table_named, place_of_table, placed_table, place_of_column, placed_column, Steps};
 
 use crate::{Change, ChangeFault, Column, DomainType, EnumType, Table};
 use sq_base::{List, Name};
@@ -78,6 +78,32 @@ impl Catalogue {
             .find(|table| is_named(table, schema, name))
     }
 
+    // The place of the table of this name in this schema.
+    fn place_of(&self, schema: &str, name: &str) -> Option<usize>
+        ensures { result ≡ place_of_table self.now schema.now name.now }
+    {
+        self.tables
+            .as_slice()
+            .iter()
+            .position(|table| is_named(table, schema, name))
+    }
+
+    /// All tables, in the order in which they were made.
+    pub fn tables(&self) -> &[Table]
+        ensures { result.now ≡ self.now.tables }
+    {
+        self.tables.as_slice()
+    }
+
+    /// The table of this name in this schema, and its place in the order in which they were made.
+    pub fn placed_table(&self, schema: &str, name: &str) -> Option<(usize, &Table)>
+        ensures { MatchOption result (placed_table self.now schema.now name.now ≡ None) (λ r. placed_table self.now schema.now name.now ≡ Some (r.0, r.1.now)) }
+    {
+        let place = self.place_of(schema, name)?;
+        let table = self.table_at(place)?;
+        Some((place, table))
+    }
+
     /// The table at this place in the order in which they were made.
     pub fn table_at(&self, index: usize) -> Option<&Table>
         ensures { option_copied result ≡ slice_get self.now.tables index }
@@ -96,4 +122,13 @@ pub fn column(table: &Table, name: &str) -> Option<usize>
         .as_slice()
         .iter()
         .position(|column| column.name.as_str() == name)
+}
+
+/// The column of this name, and its place in the table, from 0.
+pub fn placed_column<'a>(table: &'a Table, name: &str) -> Option<(usize, &'a Column)>
+    ensures { MatchOption result (placed_column table.now name.now ≡ None) (λ r. placed_column table.now name.now ≡ Some (r.0, r.1.now)) }
+{
+    let place = column(table, name)?;
+    let found = table.columns.get(place)?;
+    Some((place, found))
 }

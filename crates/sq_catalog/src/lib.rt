@@ -5,6 +5,6 @@ mod catalogue;
 mod change;
 mod table;
 
-pub use catalogue::Catalogue;
+pub use catalogue::{Catalogue, column, placed_column};
 pub use change::{Change, ChangeFault};
 pub use table::{Column, DomainType, EnumType, Key, Table};

@@ -1,0 +1,14 @@
+pub mod Answer
+pub mod Client
+pub mod Forms
+pub mod Frames
+pub mod Identifiers
+pub mod Layout
+pub mod Lines
+pub mod Names
+pub mod Run
+pub mod Signature
+pub mod Sound
+pub mod Stored
+pub mod Values
+pub mod Words

@@ -1,0 +1,11 @@
+mod AnswerLemmas
+pub mod Ascii
+mod BindLemmas
+mod FieldLemmas
+mod FormLemmas
+mod FrameLemmas
+mod Soundness
+mod StoredLemmas
+mod TypeLemmas
+mod TypingRules
+mod WordLemmas

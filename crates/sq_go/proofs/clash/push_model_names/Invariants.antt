@@ -1,0 +1,7 @@
+use Rattle.std.proofs.Common.{◌≡◌, ◌++◌, map, take}
+use Rattle.sq_core.specs.Layout.{model_name}
+use Rattle.sq_go.proofs.clash.push_model_names.Given as goal
+
+-- the models so far
+abbrev pub invariant-loop-model : goal.invariant-loop-model
+invariant-loop-model l = l.names ≡ l.fn.names ++ map model_name (take l.model-index l.models)

@@ -1,0 +1,174 @@
+//! Whether two identifiers of one name space are equal.
+
+ghost use Rattle.std.specs.Prelude.{◌≡◌, ◌++◌, ◌∷◌, [], IfOk, OnOk, map, flat_map, bytes_eq};
+ghost use Rattle.std.specs.List.{list_any};
+ghost use Rattle.sq_core.specs.Layout.{model_name};
+ghost use Rattle.sq_core.specs.Names.{clash, file_names, has_equal, methods, query_constant, query_row, top_level};
+
+use crate::files::query_path;
+use crate::row::{has_own_struct, model_of, row_name};
+use sq_base::List;
+use sq_core::{ModelDecl, QuerySig, constant_name, model_identifier, shown};
+use std::alloc::{AllocError, Global};
+
+// Whether a name is one of these.
+fn is_among(name: &[u8], names: &[List<u8>]) -> bool
+    ensures { result ≡ list_any (bytes_eq name.now) names.now }
+{
+    for other in names {
+        if name == other.as_slice() {
+            return true;
+        }
+    }
+    false
+}
+
+// Whether two names are equal. It compares each name with each later one.
+fn has_equal(names: &[List<u8>]) -> bool
+    ensures { result ≡ has_equal names.now }
+{
+    for (place, name) in names.iter().enumerate() {
+        if is_among(name.as_slice(), &names[place + 1..]) {
+            return true;
+        }
+    }
+    false
+}
+
+// Appends a name.
+fn push_name(alloc: Global, names: &mut List<List<u8>>, name: &str) -> Result<(), AllocError>
+    ensures { OnOk result (names.new ≡ names.old ++ name.now ∷ []) }
+{
+    names.push(List::from_slice(alloc, name.as_bytes())?)
+}
+
+// Appends the identifiers of models.
+fn push_model_names(
+    alloc: Global,
+    names: &mut List<List<u8>>,
+    models: &[ModelDecl],
+) -> Result<(), AllocError>
+    ensures { OnOk result (names.new ≡ names.old ++ map model_name models.now) }
+{
+    for model in models {
+        let name = model_identifier(alloc, &model.schema, &model.name)?;
+        push_name(alloc, names, name.as_str())?;
+    }
+    Ok(())
+}
+
+// Appends the constants of queries.
+fn push_constants(
+    alloc: Global,
+    names: &mut List<List<u8>>,
+    queries: &[QuerySig],
+) -> Result<(), AllocError>
+    ensures { OnOk result (names.new ≡ names.old ++ map query_constant queries.now) }
+{
+    for query in queries {
+        names.push(constant_name(alloc, &query.signature.name)?)?;
+    }
+    Ok(())
+}
+
+// Appends the struct of a query's own rows, where it has one.
+fn push_query_row(
+    alloc: Global,
+    names: &mut List<List<u8>>,
+    models: &[ModelDecl],
+    query: &QuerySig,
+) -> Result<(), AllocError>
+    ensures { OnOk result (names.new ≡ names.old ++ query_row models.now query.now) }
+{
+    let model = model_of(alloc, models, query.model)?;
+    let shown = shown(alloc, &query.signature)?;
+    if !has_own_struct(&model, shown.columns.as_slice()) {
+        return Ok(());
+    }
+    names.push(row_name(alloc, &shown)?)
+}
+
+// Appends the structs of the queries' own rows.
+fn push_query_rows(
+    alloc: Global,
+    names: &mut List<List<u8>>,
+    models: &[ModelDecl],
+    queries: &[QuerySig],
+) -> Result<(), AllocError>
+    ensures { OnOk result (names.new ≡ names.old ++ flat_map (query_row models.now) queries.now) }
+{
+    for query in queries {
+        push_query_row(alloc, names, models, query)?;
+    }
+    Ok(())
+}
+
+// What stands at the top level.
+fn top_level(
+    alloc: Global,
+    models: &[ModelDecl],
+    queries: &[QuerySig],
+) -> Result<List<List<u8>>, AllocError>
+    ensures { IfOk result (λ names. names ≡ top_level models.now queries.now) }
+{
+    let mut names = List::new(alloc);
+    push_name(alloc, &mut names, "DBTX")?;
+    push_name(alloc, &mut names, "New")?;
+    push_name(alloc, &mut names, "Queries")?;
+    push_model_names(alloc, &mut names, models)?;
+    push_constants(alloc, &mut names, queries)?;
+    push_query_rows(alloc, &mut names, models, queries)?;
+    Ok(names)
+}
+
+// Appends the names of queries.
+fn push_query_names(
+    alloc: Global,
+    names: &mut List<List<u8>>,
+    queries: &[QuerySig],
+) -> Result<(), AllocError>
+    ensures { OnOk result (names.new ≡ names.old ++ map (λ query. query.signature.name) queries.now) }
+{
+    for query in queries {
+        push_name(alloc, names, query.signature.name.as_str())?;
+    }
+    Ok(())
+}
+
+// The methods.
+fn methods(alloc: Global, queries: &[QuerySig]) -> Result<List<List<u8>>, AllocError>
+    ensures { IfOk result (λ names. names ≡ methods queries.now) }
+{
+    let mut names = List::new(alloc);
+    push_name(alloc, &mut names, "WithTx")?;
+    push_query_names(alloc, &mut names, queries)?;
+    Ok(names)
+}
+
+// The names of the files.
+fn file_names(alloc: Global, queries: &[QuerySig]) -> Result<List<List<u8>>, AllocError>
+    ensures { IfOk result (λ names. names ≡ file_names queries.now) }
+{
+    let mut names = List::new(alloc);
+    push_name(alloc, &mut names, "db.go")?;
+    push_name(alloc, &mut names, "models.go")?;
+    if let Some(query) = queries.first() {
+        let path = query_path(alloc, &query.source)?;
+        push_name(alloc, &mut names, path.as_str())?;
+    }
+    Ok(names)
+}
+
+/// Whether two identifiers of one name space of the package are equal.
+pub fn go_clash(
+    alloc: Global,
+    models: &[ModelDecl],
+    queries: &[QuerySig],
+) -> Result<bool, AllocError>
+    ensures { IfOk result (λ found. found ≡ clash models.now queries.now) }
+{
+    let top = top_level(alloc, models, queries)?;
+    let methods = methods(alloc, queries)?;
+    let files = file_names(alloc, queries)?;
+    Ok(has_equal(top.as_slice()) || has_equal(methods.as_slice()) || has_equal(files.as_slice()))
+}

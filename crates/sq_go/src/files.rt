@@ -1,0 +1,119 @@
+//! The files of a package.
+
+ghost use Rattle.std.specs.Prelude.{◌≡◌, ◌++◌, ◌∷◌, IfOk, OnOk, if◌then◌else◌, [], codes};
+ghost use Rattle.sq_core.specs.Layout.{file_text, layout, models_file, query_file, query_files, query_path};
+
+use crate::body::{Body, model_body, query_body};
+use crate::database::db_file;
+use crate::line::{file_text, push_text};
+use sq_base::{File, List, Name};
+use sq_core::{ModelDecl, QuerySig};
+use std::alloc::{AllocError, Global};
+
+// The text of models.go.
+fn models_text(alloc: Global, package_name: &str, body: &Body) -> Result<List<u8>, AllocError>
+    ensures { IfOk result (λ text. text ≡ file_text package_name.now (if body.now.sql then codes "database/sql" ∷ [] else []) body.now.declarations) }
+{
+    if body.sql {
+        file_text(
+            alloc,
+            package_name,
+            &["database/sql"],
+            body.declarations.as_slice(),
+        )
+    } else {
+        file_text(alloc, package_name, &[], body.declarations.as_slice())
+    }
+}
+
+// The file models.go.
+#[tactic(auto, unfolding(sq_core::specs::Layout::models_file))]
+fn models_file(alloc: Global, package_name: &str, models: &[ModelDecl]) -> Result<File, AllocError>
+    ensures { IfOk result (λ file. file ≡ models_file package_name.now models.now) }
+{
+    let body = model_body(alloc, models)?;
+    Ok(File {
+        path: Name::new(alloc, "models.go")?,
+        bytes: models_text(alloc, package_name, &body)?,
+    })
+}
+
+// The text of a file of queries.
+fn queries_text(alloc: Global, package_name: &str, body: &Body) -> Result<List<u8>, AllocError>
+    ensures { IfOk result (λ text. text ≡ file_text package_name.now (codes "context" ∷ (if body.now.sql then codes "database/sql" ∷ [] else [])) body.now.declarations) }
+{
+    if body.sql {
+        file_text(
+            alloc,
+            package_name,
+            &["context", "database/sql"],
+            body.declarations.as_slice(),
+        )
+    } else {
+        file_text(
+            alloc,
+            package_name,
+            &["context"],
+            body.declarations.as_slice(),
+        )
+    }
+}
+
+/// The name of the file for a source.
+pub fn query_path(alloc: Global, source: &Name) -> Result<Name, AllocError>
+    ensures { IfOk result (λ path. path ≡ query_path source.now) }
+{
+    let mut path = String::from_str(alloc, source.as_str())?;
+    path.push_str(".go")?;
+    Ok(Name::from_string(path))
+}
+
+// The file of the queries of one source.
+#[tactic(auto, unfolding(sq_core::specs::Layout::query_file))]
+fn query_file(
+    alloc: Global,
+    package_name: &str,
+    models: &[ModelDecl],
+    source: &Name,
+    queries: &[QuerySig],
+) -> Result<File, AllocError>
+    ensures { IfOk result (λ file. file ≡ query_file package_name.now models.now source.now queries.now) }
+{
+    let body = query_body(alloc, models, queries)?;
+    Ok(File {
+        path: query_path(alloc, source)?,
+        bytes: queries_text(alloc, package_name, &body)?,
+    })
+}
+
+// Appends the file of queries, where there are some.
+fn push_query_files(
+    alloc: Global,
+    files: &mut List<File>,
+    package_name: &str,
+    models: &[ModelDecl],
+    queries: &[QuerySig],
+) -> Result<(), AllocError>
+    ensures { OnOk result (files.new ≡ files.old ++ query_files package_name.now models.now queries.now) }
+{
+    match queries.first() {
+        Some(query) => files.push(query_file(alloc, package_name, models, &query.source, queries)?),
+        None => Ok(()),
+    }
+}
+
+/// The files of a package: db.go, models.go, and the file of the queries, which are of one source.
+pub fn go_files(
+    alloc: Global,
+    package_name: &str,
+    models: &[ModelDecl],
+    queries: &[QuerySig],
+) -> Result<List<File>, AllocError>
+    ensures { IfOk result (λ files. files ≡ layout package_name.now models.now queries.now) }
+{
+    let mut files = List::new(alloc);
+    files.push(db_file(alloc, package_name)?)?;
+    files.push(models_file(alloc, package_name, models)?)?;
+    push_query_files(alloc, &mut files, package_name, models, queries)?;
+    Ok(files)
+}

@@ -1,0 +1,15 @@
+pub mod Raw
+pub mod Many
+pub mod Ascii
+pub mod GroupSteps
+pub mod RawAgain
+pub mod PartsAgain
+pub mod FormsAgain
+pub mod FilesAgain
+pub mod SettledAgain
+pub mod LayoutAgain
+pub mod CoreAgain
+pub mod NamesAgain
+pub mod QueryFileAgain
+pub mod Written
+pub mod Once

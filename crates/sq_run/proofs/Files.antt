@@ -1,0 +1,71 @@
+-- How a read and a list of the tree follow what a run asks.
+use Rattle.std.proofs.Common.{◌≡◌, ◌≤◌, ◌<◌, ℕ, ◌+◌, List, [], ◌∷◌, length, take, Option, None, Some, Ok, Err, refl, sym, ◌∙◌, ap, arith}
+use Rattle.std.specs.Prelude.{IfSome}
+use Rattle.std.specs.Option.{option_map}
+use Rattle.std.proofs.lemmas.Option.{IfSome_then}
+use Rattle.std.proofs.lemmas.List.{length-take, take_all}
+use Rattle.std.proofs.lemmas.Bool.{le-leb, lt-leb}
+use Rattle.sq_base.specs.Files.{bytes_at, IsListing}
+use Rattle.sq_base.specs.Tree.{TreeState, IsTreeCall, Reads, Lists, Answers, bytes_at_most}
+use Rattle.sq_base.specs.declared.file.File.{File}
+use Rattle.sq_base.specs.declared.tree.Listing.{Listing}
+use Rattle.sq_base.specs.declared.tree.Listing.TheVariants.{Folder}
+use Rattle.sq_base.specs.declared.tree.TreeFault.{TreeFault}
+use Rattle.sq_base.specs.declared.tree.TreeFault.TheVariants.{Missing as IsMissing, Failed as HasFailed, Memory as NoMemory}
+use Rattle.sq_run.specs.declared.read.TheConstants.{LIMIT}
+use Rattle.sq_run.specs.declared.read.Role.{Role}
+use Rattle.sq_run.specs.declared.read.Role.TheVariants.{Source}
+use Rattle.sq_run.specs.declared.halt.Halt.{Halt}
+use Rattle.sq_run.specs.Asked.{Follows}
+use Rattle.sq_run.specs.Halts.{IsHaltOf, IsRefusalOf}
+use Rattle.sq_run.specs.Project.{not_yet, checked, whole_file, wanted_file}
+use Rattle.sq_run.proofs.Steps.{if_told, called_ok, called_refused, called_halt}
+
+-- what a call says where it found nothing
+missing_only : (A : Type 0) (told : Option (List File)) (Found : List File → A → Type 0) (Nothing Q : List File → Type 0) (fault : TreeFault)
+    → IfSome told (λ files. Answers (Found files) (Nothing files) (Err fault)) → ((files : List File) → Nothing files → Q files) → IfSome told (λ files. fault ≡ IsMissing → Q files)
+missing_only A told Found Nothing Q IsMissing answer follows = IfSome_then told answer (λ files nothing _. follows files nothing)
+missing_only A told Found Nothing Q HasFailed answer follows = if_told told (λ files is. absurd (cc is))
+missing_only A told Found Nothing Q NoMemory answer follows = if_told told (λ files is. absurd (cc is))
+
+-- a read that came within the limit gave the whole file
+is_whole : (role : Role) (path bytes : List ℕ) (held : Option (List ℕ)) → length bytes ≤ LIMIT → option_map (take (LIMIT + 1)) held ≡ Some bytes → option_map (checked role path) held ≡ Some (Ok bytes)
+is_whole role path bytes None fits is = absurd (cc is)
+is_whole role path bytes (Some all) fits is =
+    let cut : take (LIMIT + 1) all ≡ bytes = cc is in
+    let size : length all ≤ LIMIT = omega (arith, ap length cut, length-take (LIMIT + 1) all) in
+    let same : all ≡ bytes = sym (take_all (LIMIT + 1) all (omega arith)) ∙ cut in
+    rw (le-leb (length all) LIMIT size, same) refl
+
+-- a read that went past the limit shows that the file is too long
+is_too_long : (role : Role) (path bytes : List ℕ) (held : Option (List ℕ)) → LIMIT < length bytes → option_map (take (LIMIT + 1)) held ≡ Some bytes → option_map (checked role path) held ≡ Some (Err (not_yet role path ∷ []))
+is_too_long role path bytes None long is = absurd (cc is)
+is_too_long role path bytes (Some all) long is =
+    let cut : take (LIMIT + 1) all ≡ bytes = cc is in
+    let size : LIMIT < length all = omega (arith, ap length cut, length-take (LIMIT + 1) all) in
+    rw (lt-leb (length all) LIMIT size) refl
+
+pub read_ok : (role : Role) {path bytes : List ℕ} {old new : TreeState} → IsTreeCall old new (Ok bytes) → Reads LIMIT path old (Ok bytes) → length bytes ≤ LIMIT → Follows (whole_file role path) old new (Ok bytes)
+read_ok role {path = path} {bytes = bytes} {old = old} call reads fits =
+    called_ok path (λ files. option_map (checked role path) (bytes_at files path)) _ _ bytes bytes call (IfSome_then old.files reads.told (λ files is. is_whole role path bytes (bytes_at files path) fits is))
+
+pub read_too_long : (role : Role) {path bytes : List ℕ} {old new : TreeState} (halt : Halt) → IsTreeCall old new (Ok bytes) → Reads LIMIT path old (Ok bytes) → LIMIT < length bytes → IsRefusalOf (not_yet role path ∷ []) halt
+    → Follows (whole_file role path) old new (Err halt)
+read_too_long role {path = path} {bytes = bytes} {old = old} halt call reads long halted =
+    called_refused path (λ files. option_map (checked role path) (bytes_at files path)) _ _ bytes (not_yet role path ∷ []) halt call halted (IfSome_then old.files reads.told (λ files is. is_too_long role path bytes (bytes_at files path) long is))
+
+pub read_halted : (role : Role) {path : List ℕ} {old new : TreeState} {fault : TreeFault} (halt : Halt) → IsTreeCall {A = List ℕ} old new (Err fault) → Reads LIMIT path old (Err fault) → IsHaltOf fault path halt
+    → Follows (whole_file role path) old new (Err halt)
+read_halted role {path = path} {old = old} {fault = fault} halt call reads halted =
+    called_halt {A = List ℕ} path (λ files. option_map (checked role path) (bytes_at files path)) _ _ fault halt call halted
+    (missing_only (List ℕ) old.files (λ files bytes. bytes_at_most LIMIT files path ≡ Some bytes) _ _ fault reads.told (λ files nothing. rw nothing refl))
+
+pub list_folder : {path : List ℕ} {names : List (List ℕ)} {old new : TreeState} (halt : Halt) → IsTreeCall {A = Listing} old new (Ok (Folder names)) → Lists path old (Ok (Folder names)) → IsRefusalOf (not_yet Source path ∷ []) halt
+    → Follows (wanted_file path) old new (Err halt)
+list_folder {path = path} {names = names} {old = old} halt call lists halted =
+    called_refused path _ _ _ (Folder names) (not_yet Source path ∷ []) halt call halted (IfSome_then old.files lists.told (λ files is. rw (is.0, is.1) refl))
+
+pub list_halted : {path : List ℕ} {old new : TreeState} {fault : TreeFault} (halt : Halt) → IsTreeCall {A = Listing} old new (Err fault) → Lists path old (Err fault) → IsHaltOf fault path halt
+    → Follows (wanted_file path) old new (Err halt)
+list_halted {path = path} {old = old} {fault = fault} halt call lists halted =
+    called_halt {A = Listing} path _ _ _ fault halt call halted (missing_only Listing old.files (λ files listing. IsListing files path listing) _ _ fault lists.told (λ files nothing. rw (nothing.no_file, nothing.no_folder) refl))

@@ -1,0 +1,237 @@
+-- The headline of an accepted project.
+use Rattle.std.proofs.Common.{◌≡◌, ◌≢◌, ◌<◌, ◌-◌, ◌^◌, ℕ, zero, suc, ◌&&◌, ◌==◌, true, false, List, [], ◌∷◌, ◌++◌, length, map, nat_eq, nat_le, Option, None, Some, Ok, refl, sym, ◌∙◌, ap, subst, inl, inr, arith, slice_get}
+use Rattle.std.specs.Prelude.{codes, IfSome}
+use Rattle.std.specs.List.{AllByRecursion, AllZip, list_all}
+use Rattle.std.proofs.lemmas.Bool.{cases_Bool, eqb-true}
+use Rattle.std.proofs.lemmas.List.{append-nil, length-map}
+use Rattle.std.proofs.lemmas.Option.{same_Some}
+use Rattle.sq_base.specs.declared.file.File.{File}
+use Rattle.sq_catalog.specs.Contents.{Contents}
+use Rattle.sq_catalog.specs.declared.table.Column.{Column as TableColumn}
+use Rattle.sq_catalog.specs.declared.table.Table.{Table}
+use Rattle.sq_core.specs.Answer.{Answer, Gives, Fault, Stuck, AnswerKeeps}
+use Rattle.sq_core.specs.Identifiers.{constant_name, model_identifier}
+use Rattle.sq_core.specs.Layout as layout
+use Rattle.sq_core.specs.Names.{clash, has_equal}
+use Rattle.sq_core.specs.Run.{Rows, run}
+use Rattle.sq_core.specs.Signature.{fields, shown, shown_columns}
+use Rattle.sq_core.specs.Sound.{IsTyped, NeverStuck, AnswerFits, Prints, ShowsColumns, select as select_core}
+use Rattle.sq_core.specs.Words.{is_word}
+use Rattle.sq_core.specs.declared.declaration.ModelDecl.{ModelDecl}
+use Rattle.sq_core.specs.declared.declaration.QuerySig.{QuerySig}
+use Rattle.sq_core.specs.declared.node.CoreStatement.{CoreStatement}
+use Rattle.sq_core.specs.declared.node.Node.{Node}
+use Rattle.sq_core.specs.declared.signature.Language.TheVariants.{Go}
+use Rattle.sq_core.specs.declared.signature.Output.{Output}
+use Rattle.sq_core.specs.declared.signature.Param.{Param}
+use Rattle.sq_core.specs.declared.signature.ShownField.{ShownField}
+use Rattle.sq_core.specs.declared.signature.Signature.{Signature}
+use Rattle.sq_reader.specs.Readable.{IsReadable, IsModelled, is_run}
+use Rattle.sq_reader.specs.Reading.{Reads}
+use Rattle.sq_reader.specs.declared.parts.Class.TheVariants.{Word}
+use Rattle.sq_run.specs.declared.judge.Judged.{Judged}
+use Rattle.sq_run.specs.declared.query.Query.{Query}
+use Rattle.sq_run.specs.declared.statements.CreateTable.{CreateTable}
+use Rattle.sq_run.specs.declared.status.Status.{Status}
+use Rattle.sq_run.specs.declared.status.Status.TheVariants.{Done}
+use Rattle.sq_run.specs.Headline.{ReturnsFit, RunsAsPrinted, SaysQuery, HoldsFiles, IsHeadline, Headline}
+use Rattle.sq_run.specs.Judged.{judged, judged_names, output_of, model_used, are_all_columns, have_names}
+use Rattle.sq_run.specs.Project.{catalogue_with, models_of, model_of, declared, in_folder, is_generate, generate}
+use Rattle.sq_run.specs.Query.{printed}
+use Rattle.sq_run.specs.Run.{Outside, Cause, Kept, HoldsAll, files_asked}
+use Rattle.sq_run.proofs.Kept.{told_then}
+use Rattle.sq_run.specs.Statements.{is_identifier, create_table}
+use Rattle.sq_syntax.specs.declared.token.Token.{Token}
+use Rattle.sq_run.specs.Tokens.{tokens_of}
+use Rattle.sq_run.proofs.FirstTypes.{HasFirst, ShowsFirst, IsFirstTable, table_first, names_show, columns_print}
+use Rattle.sq_run.proofs.Models.{ComesFrom, names_size, names_come, some_outputs, all_outputs, both}
+use Rattle.sq_run.proofs.Placeless.{same_judged}
+use Rattle.sq_run.proofs.Plans.{FromText, accepted_from, schema_from, query_from, table_from}
+use Rattle.sq_run.proofs.Readables.{columns_form, all_fields_form, fields_spelled, model_stands, own_stands, row_spelled, word_run}
+use Rattle.sq_run.proofs.Respelled.{bytes_of, respelled}
+
+-- what is known of every core and every layout
+pub record Laws : Type 0 where
+  pub sound : (contents : Contents) (params : List Param) (core : CoreStatement) (outputs : List Output) → IsTyped contents core outputs → NeverStuck contents params core outputs
+  pub typed : (contents : Contents) (place : ℕ) (nodes : List Node) (outputs : List Output) → ShowsColumns contents place nodes outputs → IsTyped contents (select_core place nodes) outputs
+  pub read : (package_name : List ℕ) (model : ModelDecl) (query : QuerySig) → IsReadable package_name model query → Reads (layout.layout package_name (model ∷ []) (query ∷ [])) (shown query.signature ∷ [])
+  pub models : (schema name : List ℕ) → is_word (model_identifier schema name) ≡ true
+  pub constants : (query : List ℕ) → is_word query ≡ true → is_word (constant_name query) ≡ true
+  pub rows : (query : List ℕ) → is_word query ≡ true → is_word (query ++ codes "Row") ≡ true
+  pub field_words : (columns : List Output) → list_all (λ (f : ShownField). is_word f.name) (fields columns) ≡ true
+  pub column_words : (columns : List Output) → list_all (λ (f : ShownField). is_word f.name) (shown_columns columns) ≡ true
+  pub fields_apart : (columns : List Output) → length columns < 2 ^ 64 → has_equal (map (λ (f : ShownField). f.name) (fields columns)) ≡ false
+  pub columns_apart : (columns : List Output) → length columns < 2 ^ 64 → has_equal (map (λ (f : ShownField). f.name) (shown_columns columns)) ≡ false
+
+-- what a run gives fits what is printed
+answer_fits : {Item : Type 0} (contents : Contents) (outputs : List Output) (columns : List ShownField) (answer : Answer Item Rows) → AllZip Prints outputs columns → AnswerKeeps (AnswerFits contents outputs) answer → AnswerKeeps (ReturnsFit columns) answer
+answer_fits contents outputs columns (Gives rows oracle) prints fits = fits.printed columns prints
+answer_fits contents outputs columns Fault prints fits = tt
+answer_fits contents outputs columns Stuck prints fits = fits
+
+runs_as_printed : (contents : Contents) (core : CoreStatement) (outputs : List Output) (columns : List ShownField) → NeverStuck contents [] core outputs → AllZip Prints outputs columns → RunsAsPrinted contents core columns
+runs_as_printed contents core outputs columns never prints database arguments fits bound oracle =
+    answer_fits contents outputs columns (run Go contents [] core database arguments oracle) prints (never.answers_fit database arguments fits bound oracle)
+
+-- the only table of a catalogue with one
+only_table : (table found : Table) (place : ℕ) → slice_get (table ∷ []) place ≡ Some found → found ≡ table
+only_table table found zero is = sym (same_Some _ _ is)
+only_table table found (suc place) is = absurd (cc is)
+
+identifier_word : (name : List ℕ) → is_identifier name ≡ true → is_word name ≡ true
+identifier_word [] is = absurd (cc is)
+identifier_word (b ∷ name) is = (both _ _ is).1
+
+map_first : (columns : List TableColumn) → AllByRecursion HasFirst columns → AllByRecursion ShowsFirst (map output_of columns)
+map_first [] all = tt
+map_first (c ∷ columns) all = (all.0, map_first columns all.1)
+
+some_shown : (outputs : List Output) → outputs ≢ [] → 0 < length (shown_columns outputs)
+some_shown [] some = absurd (some refl)
+some_shown (output ∷ []) some = omega arith
+some_shown (output ∷ second ∷ outputs) some = omega arith
+
+several_shown : (outputs : List Output) → nat_le 2 (length outputs) ≡ true → shown_columns outputs ≡ fields outputs
+several_shown [] several = absurd (cc several)
+several_shown (output ∷ []) several = absurd (cc several)
+several_shown (output ∷ second ∷ outputs) several = refl
+
+-- the identifier of a model that is used is that of the only model
+model_named : (model : ModelDecl) (id : Option ℕ) (identifier : List ℕ) → layout.model_of (model ∷ []) id ≡ Some identifier → layout.model_name model ≡ identifier
+model_named model None identifier is = absurd (cc is)
+model_named model (Some wanted) identifier is = elim (cases_Bool (nat_eq model.id wanted)) [
+  | inl same ↦ same_Some _ _ (rw same at is)
+  | inr other ↦ absurd (cc (rw other at is))
+]
+
+modelled_by : (model : Option (List ℕ)) (columns wanted : List ShownField) → ((identifier : List ℕ) → model ≡ Some identifier → columns ≡ wanted) → IsModelled model columns wanted
+modelled_by None columns wanted same = tt
+modelled_by (Some identifier) columns wanted same = same identifier refl
+
+-- a model is used only for all its columns
+used_whole : (table : Table) (outputs : List Output) (model : ModelDecl) (identifier : List ℕ) → layout.model_of (model ∷ []) (model_used table outputs) ≡ Some identifier → (nat_le 2 (length outputs) ≡ true) × (are_all_columns outputs table.columns ≡ true)
+used_whole table outputs model identifier is = elim (cases_Bool (nat_le 2 (length outputs) && are_all_columns outputs table.columns)) [
+  | inl used ↦ both _ _ used
+  | inr none ↦ absurd (cc (rw none at is))
+]
+
+module _ (laws : Laws) (table : Table) (query : Query) (outputs : List Output) where
+  -- what is shown of a query whose model is used
+  shown_whole : IsFirstTable table.columns → AllByRecursion (ComesFrom table.columns) outputs → (identifier : List ℕ) → layout.model_of (model_of table ∷ []) (model_used table outputs) ≡ Some identifier
+      → shown_columns outputs ≡ fields (map output_of table.columns)
+  shown_whole first come identifier is =
+      let used = used_whole table outputs (model_of table) identifier is in
+      let whole = both (length outputs == length table.columns) (have_names outputs table.columns) used.1 in
+      several_shown outputs used.0 ∙ ap fields (all_outputs table.columns first.apart outputs come (eqb-true (length outputs) (length table.columns) whole.0) whole.1)
+
+  readable : (found : Judged) → found.columns ≡ outputs → found.model ≡ model_used table outputs → IsFirstTable table.columns → AllByRecursion (ComesFrom table.columns) outputs → AllByRecursion ShowsFirst outputs → outputs ≢ []
+      → length outputs < 2 ^ 64 → length table.columns < 2 ^ 64 → is_identifier query.name ≡ true → clash (model_of table ∷ []) (declared query found ∷ []) ≡ false → IsReadable (codes "db") (model_of table) (declared query found)
+  readable found columns model first come types some few_outputs few_columns named apart =
+      let word : is_word query.name ≡ true = identifier_word query.name named in
+      let forms = columns_form outputs types in
+      let fields_first = all_fields_form (map output_of table.columns) (map_first table.columns first.types) in
+      let id = layout.model_of (model_of table ∷ []) (model_used table outputs) in
+      let row_word = word_run (query.name ++ codes "Row") (laws.rows query.name word) in
+      let model_word = word_run (layout.model_name (model_of table)) (laws.models (model_of table).schema _) in
+      record {
+        package_word = refl;
+        model_word = model_word;
+        query_word = word_run query.name word;
+        constant_word = word_run (constant_name query.name) (laws.constants query.name word);
+        row_word = row_word;
+        row_spelled = rw (columns, model) (row_spelled id query.name (shown_columns outputs) forms row_word (λ identifier is. subst (λ (x : List ℕ). is_run Word x ≡ true) (model_named (model_of table) (model_used table outputs) identifier is) model_word));
+        fields_spelled = fields_spelled (fields (map output_of table.columns)) fields_first (laws.field_words (map output_of table.columns));
+        columns_spelled = rw columns (fields_spelled (shown_columns outputs) forms (laws.column_words outputs));
+        fields_apart = laws.fields_apart (map output_of table.columns) (rw length-map few_columns);
+        columns_apart = rw columns (laws.columns_apart outputs few_outputs);
+        model_types = rw append-nil (model_stands (fields (map output_of table.columns)) fields_first);
+        query_types = rw (columns, model, append-nil) (own_stands id (shown_columns outputs) forms);
+        command = refl;
+        some_column = rw columns (some_shown outputs some);
+        modelled = rw (columns, model) (modelled_by id (shown_columns outputs) (fields (map output_of table.columns)) (shown_whole first come));
+        no_clash = apart;
+        no_database = refl;
+        no_models = refl;
+      }
+
+-- what a judged query over one table says, by where its parts come from
+says_query : (laws : Laws) (made : CreateTable) (statement : List Token) → create_table statement ≡ Some made → length made.columns < 2 ^ 64 → (source : List ℕ) → length source < 2 ^ 64
+    → (query : Query) → FromText source query → (found : Judged) → judged (catalogue_with made) query.select ≡ Ok found → clash (models_of (catalogue_with made)) (declared query found ∷ []) ≡ false
+    → SaysQuery (catalogue_with made) query (layout.layout (codes "db") (models_of (catalogue_with made)) (declared query found ∷ []))
+says_query laws made statement reads few source small query text found judges apart =
+    let contents = catalogue_with made in
+    let from = table_from contents query.select found judges in
+    let the_table : Table = record { id = 0; schema = codes "public"; name = made.name; columns = made.columns; key = None } in
+    let only : from.table ≡ the_table = only_table the_table from.table from.place from.there in
+    let columns_is : found.columns ≡ from.columns.1 = ap (λ (j : Judged). j.columns) from.is in
+    let model_is : found.model ≡ model_used the_table from.columns.1 = ap (λ (j : Judged). j.model) from.is ∙ ap (λ (t : Table). model_used t from.columns.1) only in
+    let core_is : found.core ≡ select_core from.place from.columns.0 = ap (λ (j : Judged). j.core) from.is in
+    let first : IsFirstTable made.columns = table_first statement made reads in
+    let names = subst (λ (t : Table). judged_names t query.select.outputs ≡ Ok from.columns) only from.judges in
+    let there = subst (λ (t : Table). slice_get contents.tables from.place ≡ Some t) only from.there in
+    let shows = names_show the_table query.select.outputs from.columns first.types names in
+    let come = names_come the_table query.select.outputs from.columns names in
+    let count = names_size the_table query.select.outputs from.columns names in
+    let some = some_outputs the_table query.select.outputs from.columns text.some names in
+    let prints = columns_print from.columns.1 shows.types in
+    let good : IsReadable (codes "db") (model_of the_table) (declared query found) =
+    readable laws the_table query from.columns.1 found columns_is model_is first come shows.types some (omega (arith, count, text.small)) few text.named apart in
+    let typed : IsTyped contents (select_core from.place from.columns.0) from.columns.1 = laws.typed contents from.place from.columns.0 from.columns.1 (rw there shows.shows) in
+    let never : NeverStuck contents [] found.core from.columns.1 = subst (λ (core : CoreStatement). NeverStuck contents [] core from.columns.1) (sym core_is) (laws.sound contents [] (select_core from.place from.columns.0) from.columns.1 typed) in
+    let same : map bytes_of (tokens_of 1 1 (printed text.statement)) ≡ map bytes_of text.statement =
+    rw text.first (respelled 1 2 text.below (length (tokens_of 1 2 text.below) - 1)) in
+    record {
+      found = found;
+      judges = judges;
+      reads = laws.read (codes "db") (model_of the_table) (declared query found) good;
+      text = rw text.text (same_judged contents text.statement (tokens_of 1 1 (printed text.statement)) query.select found same text.reads judges);
+      runs = rw columns_is (runs_as_printed contents found.core from.columns.1 (shown_columns from.columns.1) never prints);
+    }
+
+says_over : (laws : Laws) (contents : Contents) (made : CreateTable) (statement : List Token) → create_table statement ≡ Some made → length made.columns < 2 ^ 64 → contents ≡ catalogue_with made → (source : List ℕ) → length source < 2 ^ 64
+    → (query : Query) → FromText source query → (found : Judged) → judged contents query.select ≡ Ok found → clash (models_of contents) (declared query found ∷ []) ≡ false
+    → SaysQuery contents query (layout.layout (codes "db") (models_of contents) (declared query found ∷ []))
+says_over laws contents made statement reads few is source small query text found judges apart =
+    subst (λ (c : Contents). SaysQuery c query (layout.layout (codes "db") (models_of c) (declared query found ∷ []))) (sym is)
+    (says_query laws made statement reads few source small query text found (subst (λ (c : Contents). judged c query.select ≡ Ok found) is judges) (subst (λ (c : Contents). clash (models_of c) (declared query found ∷ []) ≡ false) is apart))
+
+-- an output that holds all files of the layout holds each at its path
+holds_files : (models : List ModelDecl) (signature : Signature) (model : Option ℕ) (before now : List File) → let query : QuerySig = record { source = codes "q.sql"; signature = signature; model = model } in
+    HoldsAll (map in_folder (layout.layout (codes "db") models (query ∷ []))) before now → HoldsFiles (layout.layout (codes "db") models (query ∷ [])) now
+unfolding layout.db_file layout.models_file layout.query_file
+holds_files models signature model before now all = (all (codes "db/db.go"), (all (codes "db/models.go"), (all (codes "db/q.sql.go"), tt)))
+
+-- what was put for an accepted project
+headline_of : (laws : Laws) (words : List (List ℕ)) (held before now files : List File) → is_generate words ≡ true → (generate held).answer ≡ Some (Ok files) → HoldsAll (files_asked words held) before now → IsHeadline words held now
+headline_of laws words held before now files command answer all =
+    let from = accepted_from held files answer in
+    let schema = schema_from from.schema from.contents from.replays in
+    let text = query_from from.source from.query.query from.query.annotated in
+    let asked : files_asked words held ≡ map in_folder (layout.layout (codes "db") (models_of from.contents) (declared from.query.query from.query.found ∷ [])) =
+    rw (command, answer) from.query.laid_out in
+    record {
+      schema = from.schema;
+      source = from.source;
+      contents = from.contents;
+      query = from.query.query;
+      files = layout.layout (codes "db") (models_of from.contents) (declared from.query.query from.query.found ∷ []);
+      schema_held = from.schema_held;
+      replays = from.replays;
+      source_held = from.source_held;
+      annotated = from.query.annotated;
+      put = asked;
+      holds = holds_files (models_of from.contents) (declared from.query.query from.query.found).signature from.query.found.model before now (subst (λ (fs : List File). HoldsAll fs before now) asked all);
+      says = says_over laws from.contents schema.table schema.statement schema.reads (omega (arith, schema.small, from.schema_fits)) schema.holds from.source (omega (arith, from.source_fits)) from.query.query text from.query.found from.query.judges from.query.apart;
+    }
+
+-- where the run is Done, its files are such
+pub headlined : (laws : Laws) (words : List (List ℕ)) (before after : Outside) (status : Status) → Cause words before after status → Kept words before after status → Headline words before after status
+headlined laws words before after status cause kept done =
+    let why : Cause words before after Done = subst (Cause words before after) done cause in
+    let holds : Kept words before after Done = subst (Kept words before after) done kept in
+    both_told before.tree.files why.1.project holds (λ held accepted told.
+    told_then (HoldsAll (files_asked words held)) (λ _ now. IsHeadline words held now) (λ x y all. headline_of laws words held x y accepted.0 why.1.command accepted.1 all) before.out.files after.out.files told)
+  where
+    both_told : (told : Option (List File)) {P Q R : List File → Type 0} → IfSome told P → IfSome told Q → ((held : List File) → P held → Q held → R held) → IfSome told R
+    both_told None p q all = tt
+    both_told (Some held) p q all = all held p q

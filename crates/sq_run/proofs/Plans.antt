@@ -1,0 +1,219 @@
+-- What stands behind the files of an accepted project.
+use Rattle.std.proofs.Common.{◌≡◌, ◌≢◌, ◌≤◌, ℕ, ◌+◌, ◌-◌, true, false, List, [], ◌∷◌, length, take, drop, map, Option, None, Some, Result, Ok, Err, refl, sym, ap, subst, inl, inr, arith, position, nat_le, slice_get, ◌==◌}
+use Rattle.std.specs.Prelude.{codes}
+use Rattle.std.specs.Option.{option_map}
+use Rattle.std.proofs.lemmas.Bool.{cases_Bool, leb-true}
+use Rattle.std.proofs.lemmas.List.{length-drop}
+use Rattle.std.proofs.lemmas.Option.{same_Some}
+use Rattle.sq_base.specs.Files.{bytes_at}
+use Rattle.sq_base.specs.declared.file.File.{File}
+use Rattle.sq_base.specs.declared.refusal.Refusal.{Refusal}
+use Rattle.sq_catalog.specs.Contents.{Contents}
+use Rattle.sq_catalog.specs.Catalogue.{placed_table, place_of_table}
+use Rattle.sq_catalog.specs.declared.table.Table.{Table}
+use Rattle.sq_core.specs.Layout.{layout}
+use Rattle.sq_core.specs.Names.{clash}
+use Rattle.sq_core.specs.Sound.{select as select_core}
+use Rattle.sq_core.specs.declared.declaration.ModelDecl.{ModelDecl}
+use Rattle.sq_core.specs.declared.declaration.QuerySig.{QuerySig}
+use Rattle.sq_core.specs.declared.node.Node.{Node}
+use Rattle.sq_core.specs.declared.signature.Output.{Output}
+use Rattle.sq_syntax.specs.declared.token.Token.{Token}
+use Rattle.sq_run.specs.declared.halt.Finding.{Finding}
+use Rattle.sq_run.specs.declared.judge.Judged.{Judged}
+use Rattle.sq_run.specs.declared.query.Query.{Query}
+use Rattle.sq_run.specs.declared.read.Role.TheVariants.{Source}
+use Rattle.sq_run.specs.declared.read.TheConstants.{LIMIT}
+use Rattle.sq_run.specs.declared.statements.CreateTable.{CreateTable}
+use Rattle.sq_run.specs.declared.statements.Select.{Select}
+use Rattle.sq_run.specs.Asked.{nothing_asked}
+use Rattle.sq_run.specs.Judged.{judged, judged_names, judged_select, model_used, unknown}
+use Rattle.sq_run.specs.Project.{schema_path, query_path, checked, whole_file, wanted_file, source, catalogue_with, catalogue_by, catalogue_of, table_of, models_of, declared, in_folder, written, project_by, project_of, configuration, generate}
+use Rattle.sq_run.specs.Query.{first_line, behind, before_end, query_name, annotated, printed, query_of}
+use Rattle.sq_run.specs.Statements.{is_identifier, one_statement, create_table, select}
+use Rattle.sq_run.specs.Tokens.{tokens_of}
+use Rattle.sq_run.proofs.FirstTypes.{placed_there, same_ok}
+use Rattle.sq_run.proofs.Options.{bind_some, and_then_ok}
+use Rattle.sq_run.proofs.Sizes.{text_size, table_size, query_size, statement_size}
+
+same_answer : {A : Type 0} (r : Result A (List Finding)) (x y : A) → r ≡ Ok x → r ≡ Ok y → x ≡ y
+same_answer r x y one other = cc (one, other)
+
+checked_ok : (path b bytes : List ℕ) → checked Source path b ≡ Ok bytes → (b ≡ bytes) × (length b ≤ LIMIT)
+checked_ok path b bytes is = elim (cases_Bool (nat_le (length b) LIMIT)) [
+  | inl fits ↦ (same_answer _ _ _ refl (rw fits at is), leb-true (length b) LIMIT fits)
+  | inr not ↦ absurd (cc (rw not at is))
+]
+
+held_ok : (path bytes : List ℕ) (found : Option (List ℕ)) → option_map (checked Source path) found ≡ Some (Ok bytes) → (found ≡ Some bytes) × (length bytes ≤ LIMIT)
+held_ok path bytes None is = absurd (cc is)
+held_ok path bytes (Some b) is =
+    let whole = checked_ok path b bytes (same_Some _ _ is) in
+    (ap Some whole.0, omega (arith, ap length whole.0, whole.1))
+
+-- a source that was read is held, and not too long
+source_ok : (path bytes : List ℕ) (held : List File) → (source path held).answer ≡ Some (Ok bytes) → (bytes_at held path ≡ Some bytes) × (length bytes ≤ LIMIT)
+source_ok path bytes held is = held_ok path bytes (bytes_at held path) (and_then_ok (wanted_file path held) (λ _. whole_file Source path held) bytes is).2
+
+catalogue_ok : (found : Option CreateTable) (contents : Contents) → catalogue_by found ≡ Ok contents → (table : CreateTable) × (found ≡ Some table) × (contents ≡ catalogue_with table)
+catalogue_ok None contents is = absurd (cc is)
+catalogue_ok (Some table) contents is = (table, refl, sym (same_answer _ _ _ refl is))
+
+written_ok : (models : List ModelDecl) (queries : List QuerySig) (files : List File) → written models queries ≡ Ok files → (clash models queries ≡ false) × (files ≡ map in_folder (layout (codes "db") models queries))
+written_ok models queries files is = elim (cases_Bool (clash models queries)) [
+  | inl found ↦ absurd (cc (rw found at is))
+  | inr none ↦ (none, sym (same_answer _ _ _ refl (rw none at is)))
+]
+
+-- a judged query whose files are laid out
+pub record FromQuery (contents : Contents) (source : List ℕ) (files : List File) : Type 0 where
+  pub query : Query
+  pub annotated : query_of source ≡ Some query
+  pub found : Judged
+  pub judges : judged contents query.select ≡ Ok found
+  pub apart : clash (models_of contents) (declared query found ∷ []) ≡ false
+  pub laid_out : files ≡ map in_folder (layout (codes "db") (models_of contents) (declared query found ∷ []))
+
+project_ok : (contents : Contents) (source : List ℕ) (files : List File) → project_of contents (query_of source) ≡ Ok files → FromQuery contents source files
+project_ok contents source files is = by_query (query_of source) refl is
+  where
+    by_judged : (query : Query) → query_of source ≡ Some query → (answer : Result Judged Refusal) → judged contents query.select ≡ answer → project_by contents query answer ≡ Ok files → FromQuery contents source files
+    by_judged query there (Err refusal) judges is = absurd (cc is)
+    by_judged query there (Ok found) judges is =
+        let laid = written_ok (models_of contents) (declared query found ∷ []) files is in
+        record { query = query; annotated = there; found = found; judges = judges; apart = laid.0; laid_out = laid.1 }
+
+    by_query : (found : Option Query) → query_of source ≡ found → project_of contents found ≡ Ok files → FromQuery contents source files
+    by_query None there is = absurd (cc is)
+    by_query (Some query) there is = by_judged query there (judged contents query.select) refl is
+
+-- what an accepted project was made from
+pub record FromHeld (held files : List File) : Type 0 where
+  pub schema : List ℕ
+  pub schema_held : bytes_at held schema_path ≡ Some schema
+  pub schema_fits : length schema ≤ LIMIT
+  pub contents : Contents
+  pub replays : catalogue_of schema ≡ Ok contents
+  pub source : List ℕ
+  pub source_held : bytes_at held query_path ≡ Some source
+  pub source_fits : length source ≤ LIMIT
+  pub query : FromQuery contents source files
+
+pub accepted_from : (held files : List File) → (generate held).answer ≡ Some (Ok files) → FromHeld held files
+accepted_from held files is =
+    let a = and_then_ok (configuration held) _ files is in
+    let b = and_then_ok (source schema_path held) _ files a.2 in
+    let c = and_then_ok (nothing_asked (catalogue_of b.0)) _ files b.2 in
+    let d = and_then_ok (source query_path held) _ files c.2 in
+    let schema = source_ok schema_path b.0 held b.1 in
+    let query = source_ok query_path d.0 held d.1 in
+    record {
+      schema = b.0;
+      schema_held = schema.0;
+      schema_fits = schema.1;
+      contents = c.0;
+      replays = same_Some _ _ c.1;
+      source = d.0;
+      source_held = query.0;
+      source_fits = query.1;
+      query = project_ok c.0 d.0 files (same_Some _ _ d.2);
+    }
+
+-- the table of the catalogue
+pub record FromSchema (schema : List ℕ) (contents : Contents) : Type 0 where
+  pub table : CreateTable
+  pub statement : List Token
+  pub reads : create_table statement ≡ Some table
+  pub holds : contents ≡ catalogue_with table
+  pub small : length table.columns ≤ length schema
+
+table_ok : (schema : List ℕ) (table : CreateTable) → table_of schema ≡ Some table → (statement : List Token) × (create_table statement ≡ Some table) × (length table.columns ≤ length schema)
+unfolding table_of
+table_ok schema table is =
+    let statement = bind_some (one_statement (tokens_of 0 1 schema)) _ table is in
+    let size = (statement_size (tokens_of 0 1 schema) statement.0 statement.1).0 in
+    (statement.0, statement.2, omega (arith, size, text_size 0 1 schema, table_size statement.0 table statement.2))
+
+pub schema_from : (schema : List ℕ) (contents : Contents) → catalogue_of schema ≡ Ok contents → FromSchema schema contents
+schema_from schema contents is =
+    let found = catalogue_ok (table_of schema) contents is in
+    let made = table_ok schema found.0 found.1 in
+    record { table = found.0; statement = made.0; reads = made.1; holds = found.2; small = made.2 }
+
+-- the parts of a query's file
+pub record FromText (source : List ℕ) (query : Query) : Type 0 where
+  pub below : List ℕ
+  pub statement : List Token
+  pub first : statement ≡ take (length (tokens_of 1 2 below) - 1) (tokens_of 1 2 below)
+  pub reads : select statement ≡ Some query.select
+  pub text : query.text ≡ printed statement
+  pub named : is_identifier query.name ≡ true
+  pub small : length query.select.outputs ≤ length source
+  pub some : query.select.outputs ≢ []
+
+line_size : (bytes : List ℕ) (r : List ℕ × List ℕ) → first_line bytes ≡ Some r → length r.1 ≤ length bytes
+unfolding first_line
+line_size bytes r is = by_place (position (λ b. b == 10) bytes) is
+  where
+    by_place : (at : Option ℕ) → option_map (λ n. (take n bytes, drop (n + 1) bytes)) at ≡ Some r → length r.1 ≤ length bytes
+    by_place None is = absurd (cc is)
+    by_place (Some n) is = omega (arith, ap (λ (x : List ℕ × List ℕ). length x.1) (same_Some _ _ is), length-drop (n + 1) bytes)
+
+name_ok : (text name : List ℕ) → query_name text ≡ Some name → is_identifier name ≡ true
+unfolding query_name
+name_ok text name is = elim (cases_Bool (is_identifier text)) [
+  | inl good ↦ subst (λ (t : List ℕ). is_identifier t ≡ true) (same_Some _ _ (rw good at is)) good
+  | inr bad ↦ absurd (cc (rw bad at is))
+]
+
+annotated_ok : (source : List ℕ) (r : List ℕ × List ℕ) → annotated source ≡ Some r → (is_identifier r.0 ≡ true) × (length r.1 ≤ length source)
+unfolding annotated
+annotated_ok source r is =
+    let line = bind_some (first_line source) _ r is in
+    let rest = bind_some (behind (codes "-- name: ") line.0.0) _ r line.2 in
+    let front = bind_some (before_end (codes " :many") rest.0) _ r rest.2 in
+    let name = bind_some (query_name front.0) _ r front.2 in
+    let same = same_Some _ _ name.2 in
+    (subst (λ (x : List ℕ × List ℕ). is_identifier x.0 ≡ true) same (name_ok front.0 name.0 name.1), omega (arith, line_size source line.0 line.1, ap (λ (x : List ℕ × List ℕ). length x.1) same))
+
+pub query_from : (source : List ℕ) (query : Query) → query_of source ≡ Some query → FromText source query
+unfolding query_of
+query_from source query is =
+    let noted = bind_some (annotated source) _ query is in
+    let statement = bind_some (one_statement (tokens_of 1 2 noted.0.1)) _ query noted.2 in
+    let chosen = bind_some (select statement.0) _ query statement.2 in
+    let about = annotated_ok source noted.0 noted.1 in
+    let cut = statement_size (tokens_of 1 2 noted.0.1) statement.0 statement.1 in
+    let size = query_size statement.0 chosen.0 chosen.1 in
+    subst (FromText source) (same_Some _ _ chosen.2) (record {
+      below = noted.0.1;
+      statement = statement.0;
+      first = cut.1;
+      reads = chosen.1;
+      text = refl;
+      named = about.0;
+      small = omega (arith, size.0, cut.0, text_size 1 2 noted.0.1, about.1);
+      some = size.1;
+    })
+
+-- where a query's columns come from
+pub record FromTable (contents : Contents) (query : Select) (found : Judged) : Type 0 where
+  pub place : ℕ
+  pub table : Table
+  pub there : slice_get contents.tables place ≡ Some table
+  pub columns : List Node × List Output
+  pub judges : judged_names table query.outputs ≡ Ok columns
+  pub is : found ≡ record { core = select_core place columns.0; columns = columns.1; model = model_used table columns.1 }
+
+pub table_from : (contents : Contents) (query : Select) (found : Judged) → judged contents query ≡ Ok found → FromTable contents query found
+unfolding judged
+table_from contents query found is = by_table (placed_table contents (codes "public") query.table.name) refl is
+  where
+    by_names : (place : ℕ) (table : Table) → slice_get contents.tables place ≡ Some table → (answer : Result (List Node × List Output) Refusal) → judged_names table query.outputs ≡ answer → judged_select place table answer ≡ Ok found → FromTable contents query found
+    by_names place table there (Err refusal) names is = absurd (cc is)
+    by_names place table there (Ok columns) names is = record { place = place; table = table; there = there; columns = columns; judges = names; is = sym (same_ok _ _ _ refl is) }
+
+    by_table : (placed : Option (ℕ × Table)) → placed_table contents (codes "public") query.table.name ≡ placed
+        → ◌≡◌ {A = Result Judged Refusal} (elim placed [ None ↦ Err (unknown 10 query.table) | Some t ↦ judged_select t.0 t.1 (judged_names t.1 query.outputs) ]) (Ok found) → FromTable contents query found
+    by_table None at is = absurd (cc is)
+    by_table (Some t) at is = by_names t.0 t.1 (placed_there contents.tables (place_of_table contents (codes "public") query.table.name) t at) (judged_names t.1 query.outputs) refl is

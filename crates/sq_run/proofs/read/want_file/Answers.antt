@@ -1,0 +1,8 @@
+use Rattle.sq_run.proofs.Files.{list_folder, list_halted}
+use Rattle.sq_run.proofs.read.want_file.Goals as goal
+
+pub returns-in-Ok-Folder : goal.returns-in-Ok-Folder
+returns-in-Ok-Folder g c = let answered = rw c.in-Ok-Folder.field-0-is at c.in-Ok-Folder.ensures in list_folder c.refuse.result answered.call answered.answer c.refuse.ensures
+
+pub returns : goal.returns
+returns g c = list_halted c.halt.result c.in-Err.ensures.call c.in-Err.ensures.answer c.halt.ensures

@@ -1,0 +1,86 @@
+-- What a part of a run asks of the tree, and how a part of a run has ended.
+use Rattle.std.specs.Prelude.{⊤, ◌≡◌, ◌≤◌, ℕ, List, [], ◌∷◌, ◌++◌, length, Option, None, Some, IfSome, Result, Ok, Err}
+use Rattle.std.specs.Option.{option_map}
+use Rattle.sq_base.specs.Counts.{raised_by, Rose}
+use Rattle.sq_base.specs.Tree.{TreeState}
+use Rattle.sq_base.specs.declared.file.File.{File}
+use Rattle.sq_run.specs.declared.halt.Finding.{Finding}
+use Rattle.sq_run.specs.declared.halt.Halt.{Halt}
+use Rattle.sq_run.specs.declared.halt.Halt.TheVariants.{Usage, Refused, Missing, Failed, Memory}
+
+pub record Asked (A : Type 0) : Type 0 where
+  -- the paths of the calls in order, up to the first call that finds nothing
+  pub paths : List (List ℕ)
+  -- what is made of the answers, or None where the last call finds nothing
+  pub answer : Option (Result A (List Finding))
+
+-- asks nothing
+abbrev pub nothing_asked : {A : Type 0} → Result A (List Finding) → Asked A
+nothing_asked answer = record { paths = []; answer = Some answer }
+
+-- asks more, where the first part has answered Ok
+abbrev pub and_then : {A B : Type 0} → Asked A → (A → Asked B) → Asked B
+and_then {A} {B} first more = elim first.answer [
+  | None ↦ record { paths = first.paths; answer = None }
+  | Some answer ↦ elim answer [
+    | Ok value ↦ record { paths = first.paths ++ (more value).paths; answer = (more value).answer }
+    | Err findings ↦ record { paths = first.paths; answer = Some (Err findings) }
+  ]
+]
+
+-- the calls that were made are the first of those asked
+abbrev pub IsFront : List (List ℕ) → List (List ℕ) → Type 0
+IsFront made asked = (left : List (List ℕ)) × (asked ≡ made ++ left)
+
+-- the last call that was made had this path
+abbrev pub EndsAt : List ℕ → List (List ℕ) → Type 0
+EndsAt path made = (front : List (List ℕ)) × (made ≡ front ++ path ∷ [])
+
+-- how a part that asks so has ended, after calls for these paths
+abbrev pub Ends : {A : Type 0} → Asked A → List (List ℕ) → Result A Halt → Type 0
+Ends asked made (Ok value) = (asked.answer ≡ Some (Ok value)) × (made ≡ asked.paths)
+Ends asked made (Err Usage) = ⊥
+Ends asked made (Err (Refused findings)) = (asked.answer ≡ Some (Err findings)) × (made ≡ asked.paths)
+Ends asked made (Err (Missing path)) = (asked.answer ≡ None) × (made ≡ asked.paths) × EndsAt path made
+Ends asked made (Err (Failed path)) = IsFront made asked.paths × EndsAt path made
+Ends asked made (Err Memory) = IsFront made asked.paths
+
+-- no part that reads ends with a usage fault; Failed comes where the count of faults rose; other answers, but for want of memory, leave it
+abbrev pub CountsFault : {A : Type 0} → Result A Halt → ℕ → ℕ → Type 0
+CountsFault (Ok value) before now = now ≡ before
+CountsFault (Err Usage) before now = ⊥
+CountsFault (Err (Refused findings)) before now = now ≡ before
+CountsFault (Err (Missing path)) before now = now ≡ before
+CountsFault (Err (Failed path)) before now = Rose before now
+CountsFault (Err Memory) before now = before ≤ now
+
+-- Missing comes where the count of missings rose; other answers, but for want of memory, leave it
+abbrev pub CountsMissing : {A : Type 0} → Result A Halt → ℕ → ℕ → Type 0
+CountsMissing (Ok value) before now = now ≡ before
+CountsMissing (Err Usage) before now = ⊥
+CountsMissing (Err (Refused findings)) before now = now ≡ before
+CountsMissing (Err (Missing path)) before now = Rose before now
+CountsMissing (Err (Failed path)) before now = now ≡ before
+CountsMissing (Err Memory) before now = before ≤ now
+
+-- over the files held, the calls made and the result are those of a part that asks so
+pub record Answered {A : Type 0} (asked : Asked A) (old new : TreeState) (result : Result A Halt) : Type 0 where
+  pub made : List (List ℕ)
+  pub ends : Ends asked made result
+  pub calls : new.calls ≡ option_map (raised_by (length made)) old.calls
+
+-- a part of a run that asks so of the files held has ended with this result
+pub record Follows {A : Type 0} (part : List File → Asked A) (old new : TreeState) (result : Result A Halt) : Type 0 where
+  pub files : new.files ≡ old.files
+  pub faults : CountsFault result old.faults new.faults
+  pub missings : CountsMissing result old.missings new.missings
+  pub asked : IfSome old.files (λ files. Answered (part files) old new result)
+
+-- what is made of values in hand, without a call
+abbrev pub Judges : {A : Type 0} → Result A (List Finding) → Result A Halt → Type 0
+Judges answer (Ok value) = answer ≡ Ok value
+Judges answer (Err Usage) = ⊥
+Judges answer (Err (Refused findings)) = answer ≡ Err findings
+Judges answer (Err (Missing path)) = ⊥
+Judges answer (Err (Failed path)) = ⊥
+Judges answer (Err Memory) = ⊤

@@ -1,0 +1,15 @@
+pub mod Asked
+pub mod Deliver
+pub mod Each
+pub mod Halts
+pub mod Headline
+pub mod Judged
+pub mod Lines
+pub mod Printed
+pub mod Project
+pub mod Query
+pub mod Read
+pub mod Run
+pub mod Statements
+pub mod Status
+pub mod Tokens

@@ -1,0 +1,2 @@
+-- name: ListT :many
+SELECT id, name FROM t;

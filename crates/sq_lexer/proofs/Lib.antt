@@ -11,3 +11,7 @@ pub mod PlaceLemmas
 pub mod ReadingLemmas
 pub mod SignLemmas
 pub mod OneReading
+pub mod ListLemmas
+pub mod Linked
+pub mod Respelled
+pub mod Characters

@@ -1,2 +1,5 @@
 pub mod Machine
 pub mod Reading
+pub mod TokenList
+pub mod Respelling
+pub mod Printed

@@ -36,6 +36,7 @@ ghost use Rattle.sq_syntax.specs.Tokens.{
   text_start,
 };
 ghost use Rattle.sq_lexer.specs.Machine.{scan, begin};
+ghost use Rattle.sq_lexer.specs.TokenList.{token_list, AnswersList};
 ghost use Rattle.sq_lexer.specs.Reading.{Advances, Fails, IsLoneOperator, noted};
 
 use crate::item::{fault_of, stop_at, token_kind};
@@ -232,7 +233,8 @@ fn ill_formed(alloc: Global, file: u32, front: &[u8]) -> Fault
 /// The tokens of a file.
 pub fn tokens(alloc: Global, file: u32, bytes: &[u8]) -> Result<List<Token>, Fault>
     requires { length bytes.now ≤ 4194304 }
-    ensures { TokensOf file bytes.now result }
+    ensures meant { TokensOf file bytes.now result }
+    ensures list { AnswersList (token_list file bytes.now) result }
 {
     match from_utf8(bytes) {
         Ok(_) => text_tokens(alloc, file, bytes),

@@ -1,0 +1,7 @@
+use Rattle.std.proofs.Common.{◌≡◌, drop}
+use Rattle.sq_overload.specs.Masks.{preferring}
+use Rattle.sq_overload.proofs.choice.preferring.Given as goal
+
+-- the rows so far, narrowed by the arguments that are left
+abbrev pub invariant-loop-place : goal.invariant-loop-place
+invariant-loop-place l = preferring l.args l.rows l.mask.bits l.place (drop l.place l.args) l.kept.bits ≡ preferring l.args l.rows l.mask.bits 0 l.args l.mask.bits

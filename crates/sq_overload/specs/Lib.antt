@@ -1,0 +1,4 @@
+pub mod CommonType
+pub mod Converts
+pub mod Masks
+pub mod Resolution

@@ -17,6 +17,8 @@ use Rattle.sq_core.specs.Identifiers.{numbered, pascal}
 use Rattle.sq_core.specs.Signature.{field, fields_after, shown_columns}
 use Rattle.sq_core.specs.Sound.{Prints, ShowsColumn}
 use Rattle.sq_syntax.specs.declared.token.Token.{Token}
+use Rattle.sq_syntax.specs.declared.token.TokenKind.{TokenKind}
+use Rattle.sq_syntax.specs.declared.token.TokenKind.TheVariants.{Word, Punct}
 use Rattle.sq_run.specs.declared.statements.CreateTable.{CreateTable}
 use Rattle.sq_run.specs.declared.statements.Named.{Named}
 use Rattle.sq_run.specs.Judged.{judged_names, after_these, node_of, output_of, unknown}
@@ -36,9 +38,9 @@ ShowsFirst output = IsFirst output.of
 type_first : (ts : List Token) (r : PgType × List Token) → type_at ts ≡ Some r → IsFirst r.0
 unfolding type_at
 type_first [] r is = absurd (cc is)
-type_first (t ∷ ts) r found = elim (cases_Bool (is (codes "integer") t)) [
+type_first (t ∷ ts) r found = elim (cases_Bool (is Word (codes "integer") t)) [
   | inl yes_integer ↦ inl (ap (λ (o : Option (PgType × List Token)). elim o [ None ↦ integer | Some x ↦ x.0 ]) (sym (rw yes_integer at found)))
-  | inr other ↦ elim (cases_Bool (is (codes "text") t)) [
+  | inr other ↦ elim (cases_Bool (is Word (codes "text") t)) [
     | inl yes_text ↦ inr (ap (λ (o : Option (PgType × List Token)). elim o [ None ↦ text | Some x ↦ x.0 ]) (sym (rw (other, yes_text) at found)))
     | inr none ↦ absurd (cc (rw (other, none) at found))
   ]
@@ -52,20 +54,20 @@ column_first ts r found =
     let null = bind_some (not_null_at of.0.1) _ r of.2 in
     subst (λ (x : TableColumn × List Token). HasFirst x.0) (same_Some _ _ null.2) (type_first name.0.1 of.0 of.1)
 
-items_first : (close : List ℕ) (n : ℕ) (ts : List Token) (r : List TableColumn × List Token) → items_from column_at close n ts ≡ Some r → AllByRecursion HasFirst r.0
-items_first close zero ts r found = absurd (cc found)
-items_first close (suc n) ts r found =
+items_first : (kind : TokenKind) (close : List ℕ) (n : ℕ) (ts : List Token) (r : List TableColumn × List Token) → items_from column_at kind close n ts ≡ Some r → AllByRecursion HasFirst r.0
+items_first kind close zero ts r found = absurd (cc found)
+items_first kind close (suc n) ts r found =
     let first = bind_some (column_at ts) _ r found in
-    let more = bind_some (next close first.0.1) _ r first.2 in
-    by_more (λ us l. items_first close n us l) first.0.0 (column_first ts first.0 first.1) more.0.0 more.0.1 more.2
+    let more = bind_some (next kind close first.0.1) _ r first.2 in
+    by_more (λ us l. items_first kind close n us l) first.0.0 (column_first ts first.0 first.1) more.0.0 more.0.1 more.2
   where
     by_later : (c : TableColumn) → HasFirst c → (later : Part (List TableColumn)) → ((l : List TableColumn × List Token) → later ≡ Some l → AllByRecursion HasFirst l.0) → with_item c later ≡ Some r → AllByRecursion HasFirst r.0
     by_later c has None all same = absurd (cc same)
     by_later c has (Some l) all same = subst (λ (x : List TableColumn × List Token). AllByRecursion HasFirst x.0) (same_Some _ _ same) (has, all l refl)
 
-    by_more : ((us : List Token) (l : List TableColumn × List Token) → items_from column_at close n us ≡ Some l → AllByRecursion HasFirst l.0) → (c : TableColumn) → HasFirst c → (m : Bool) (us : List Token)
-        → cond m (with_item c (items_from column_at close n us)) (Some (c ∷ [], us)) ≡ Some r → AllByRecursion HasFirst r.0
-    by_more all c has true us same = by_later c has (items_from column_at close n us) (λ l. all us l) same
+    by_more : ((us : List Token) (l : List TableColumn × List Token) → items_from column_at kind close n us ≡ Some l → AllByRecursion HasFirst l.0) → (c : TableColumn) → HasFirst c → (m : Bool) (us : List Token)
+        → cond m (with_item c (items_from column_at kind close n us)) (Some (c ∷ [], us)) ≡ Some r → AllByRecursion HasFirst r.0
+    by_more all c has true us same = by_later c has (items_from column_at kind close n us) (λ l. all us l) same
     by_more all c has false us same = subst (λ (x : List TableColumn × List Token). AllByRecursion HasFirst x.0) (same_Some _ _ same) (has, tt)
 
 -- the columns of a first table are integer or text, and no two have one name
@@ -85,15 +87,15 @@ distinct_first columns cs all found = elim (cases_Bool (has_twin columns)) [
 pub table_first : (ts : List Token) (table : CreateTable) → create_table ts ≡ Some table → IsFirstTable table.columns
 unfolding create_table
 table_first ts table found =
-    let a = bind_some (after (codes "create") ts) _ table found in
-    let b = bind_some (after (codes "table") a.0) _ table a.2 in
+    let a = bind_some (after Word (codes "create") ts) _ table found in
+    let b = bind_some (after Word (codes "table") a.0) _ table a.2 in
     let name = bind_some (name_at b.0) _ table b.2 in
-    let c = bind_some (after (codes "(") name.0.1) _ table name.2 in
-    let items = bind_some (items_at column_at (codes ")") c.0) _ table c.2 in
+    let c = bind_some (after Punct (codes "(") name.0.1) _ table name.2 in
+    let items = bind_some (items_at column_at Punct (codes ")") c.0) _ table c.2 in
     let end = bind_some (ended items.0.1) _ table items.2 in
     let cs = bind_some (distinct items.0.0) _ table end.2 in
     subst (λ (t : CreateTable). IsFirstTable t.columns) (same_Some _ _ cs.2)
-    (distinct_first items.0.0 cs.0 (items_first (codes ")") _ c.0 items.0 items.1) cs.1)
+    (distinct_first items.0.0 cs.0 (items_first Punct (codes ")") _ c.0 items.0 items.1) cs.1)
 
 -- what holds of all holds of the one at a place
 pub at_place : {A : Type 0} (P : A → Type 0) (xs : List A) (i : ℕ) (x : A) → AllByRecursion P xs → slice_get xs i ≡ Some x → P x

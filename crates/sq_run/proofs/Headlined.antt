@@ -1,5 +1,5 @@
 -- The headline of an accepted project.
-use Rattle.std.proofs.Common.{◌≡◌, ◌≢◌, ◌<◌, ◌-◌, ◌^◌, ℕ, zero, suc, ◌&&◌, ◌==◌, true, false, List, [], ◌∷◌, ◌++◌, length, map, nat_eq, nat_le, Option, None, Some, Ok, refl, sym, ◌∙◌, ap, subst, inl, inr, arith, slice_get}
+use Rattle.std.proofs.Common.{◌≡◌, ◌≢◌, ◌<◌, ◌^◌, ℕ, zero, suc, ◌&&◌, ◌==◌, true, false, List, [], ◌∷◌, ◌++◌, length, map, take, drop, nat_eq, nat_le, Option, None, Some, Ok, refl, sym, ◌∙◌, ap, subst, inl, inr, arith, slice_get}
 use Rattle.std.specs.Prelude.{codes, IfSome}
 use Rattle.std.specs.List.{AllByRecursion, AllZip, list_all}
 use Rattle.std.proofs.lemmas.Bool.{cases_Bool, eqb-true}
@@ -37,18 +37,22 @@ use Rattle.sq_run.specs.declared.status.Status.TheVariants.{Done}
 use Rattle.sq_run.specs.Headline.{ReturnsFit, RunsAsPrinted, SaysQuery, HoldsFiles, IsHeadline, Headline}
 use Rattle.sq_run.specs.Judged.{judged, judged_names, output_of, model_used, are_all_columns, have_names}
 use Rattle.sq_run.specs.Project.{catalogue_with, models_of, model_of, declared, in_folder, is_generate, generate}
-use Rattle.sq_run.specs.Query.{printed}
 use Rattle.sq_run.specs.Run.{Outside, Cause, Kept, HoldsAll, files_asked}
 use Rattle.sq_run.proofs.Kept.{told_then}
-use Rattle.sq_run.specs.Statements.{is_identifier, create_table}
+use Rattle.sq_run.specs.Names.{is_identifier}
+use Rattle.sq_run.specs.Statements.{create_table}
+use Rattle.sq_lexer.specs.Printed.{spelling, printed, AreSimple}
+use Rattle.sq_lexer.specs.Respelling.{ListedAs}
+use Rattle.sq_lexer.specs.TokenList.{token_list}
+use Rattle.sq_syntax.specs.Tokens.{has_mark}
 use Rattle.sq_syntax.specs.declared.token.Token.{Token}
-use Rattle.sq_run.specs.Tokens.{tokens_of}
 use Rattle.sq_run.proofs.FirstTypes.{HasFirst, ShowsFirst, IsFirstTable, table_first, names_show, columns_print}
 use Rattle.sq_run.proofs.Models.{ComesFrom, names_size, names_come, some_outputs, all_outputs, both}
 use Rattle.sq_run.proofs.Placeless.{same_judged}
 use Rattle.sq_run.proofs.Plans.{FromText, accepted_from, schema_from, query_from, table_from}
 use Rattle.sq_run.proofs.Readables.{columns_form, all_fields_form, fields_spelled, model_stands, own_stands, row_spelled, word_run}
-use Rattle.sq_run.proofs.Respelled.{bytes_of, respelled}
+use Rattle.sq_run.proofs.Simple.{query_simple, query_unmarked}
+use Rattle.sq_run.proofs.Sizes.{list_size}
 
 -- what is known of every core and every layout
 pub record Laws : Type 0 where
@@ -61,6 +65,8 @@ pub record Laws : Type 0 where
   pub field_words : (columns : List Output) → list_all (λ (f : ShownField). is_word f.name) (fields columns) ≡ true
   pub column_words : (columns : List Output) → list_all (λ (f : ShownField). is_word f.name) (shown_columns columns) ≡ true
   pub fields_apart : (columns : List Output) → length columns < 2 ^ 64 → has_equal (map (λ (f : ShownField). f.name) (fields columns)) ≡ false
+  pub again : (file : ℕ) (bytes : List ℕ) (tokens : List Token) (skipped count other : ℕ) → token_list file bytes ≡ Ok tokens → AreSimple (take count (drop skipped tokens)) → has_mark (printed (take count (drop skipped tokens))) ≡ false
+      → ListedAs other (printed (take count (drop skipped tokens))) (map spelling (take count (drop skipped tokens)))
   pub columns_apart : (columns : List Output) → length columns < 2 ^ 64 → has_equal (map (λ (f : ShownField). f.name) (shown_columns columns)) ≡ false
 
 -- what a run gives fits what is printed
@@ -154,11 +160,18 @@ module _ (laws : Laws) (table : Table) (query : Query) (outputs : List Output) w
         no_models = refl;
       }
 
+-- the printed text of a query has its tokens again
+respelled : (laws : Laws) (source : List ℕ) (tokens : List Token) → token_list 1 source ≡ Ok tokens → (query : Query) → (text : FromText tokens query) → ListedAs 1 (printed text.statement) (map spelling text.statement)
+respelled laws source tokens listed query text =
+    subst (λ (ts : List Token). ListedAs 1 (printed ts) (map spelling ts)) (sym text.stretch)
+    (laws.again 1 source tokens 1 text.count 1 listed (subst AreSimple text.stretch (query_simple text.statement query.select text.reads))
+    (subst (λ (ts : List Token). has_mark (printed ts) ≡ false) text.stretch (query_unmarked text.statement query.select text.reads)))
+
 -- what a judged query over one table says, by where its parts come from
-says_query : (laws : Laws) (made : CreateTable) (statement : List Token) → create_table statement ≡ Some made → length made.columns < 2 ^ 64 → (source : List ℕ) → length source < 2 ^ 64
-    → (query : Query) → FromText source query → (found : Judged) → judged (catalogue_with made) query.select ≡ Ok found → clash (models_of (catalogue_with made)) (declared query found ∷ []) ≡ false
+says_query : (laws : Laws) (made : CreateTable) (statement : List Token) → create_table statement ≡ Some made → length made.columns < 2 ^ 64 → (source : List ℕ) (tokens : List Token) → token_list 1 source ≡ Ok tokens → length tokens < 2 ^ 64
+    → (query : Query) → FromText tokens query → (found : Judged) → judged (catalogue_with made) query.select ≡ Ok found → clash (models_of (catalogue_with made)) (declared query found ∷ []) ≡ false
     → SaysQuery (catalogue_with made) query (layout.layout (codes "db") (models_of (catalogue_with made)) (declared query found ∷ []))
-says_query laws made statement reads few source small query text found judges apart =
+says_query laws made statement reads few source tokens listed small query text found judges apart =
     let contents = catalogue_with made in
     let from = table_from contents query.select found judges in
     let the_table : Table = record { id = 0; schema = codes "public"; name = made.name; columns = made.columns; key = None } in
@@ -178,22 +191,21 @@ says_query laws made statement reads few source small query text found judges ap
     readable laws the_table query from.columns.1 found columns_is model_is first come shows.types some (omega (arith, count, text.small)) few text.named apart in
     let typed : IsTyped contents (select_core from.place from.columns.0) from.columns.1 = laws.typed contents from.place from.columns.0 from.columns.1 (rw there shows.shows) in
     let never : NeverStuck contents [] found.core from.columns.1 = subst (λ (core : CoreStatement). NeverStuck contents [] core from.columns.1) (sym core_is) (laws.sound contents [] (select_core from.place from.columns.0) from.columns.1 typed) in
-    let same : map bytes_of (tokens_of 1 1 (printed text.statement)) ≡ map bytes_of text.statement =
-    rw text.first (respelled 1 2 text.below (length (tokens_of 1 2 text.below) - 1)) in
+    let again = respelled laws source tokens listed query text in
     record {
       found = found;
       judges = judges;
       reads = laws.read (codes "db") (model_of the_table) (declared query found) good;
-      text = rw text.text (same_judged contents text.statement (tokens_of 1 1 (printed text.statement)) query.select found same text.reads judges);
+      text = rw (text.text, again.listed) (same_judged contents text.statement again.tokens query.select found again.same text.reads judges);
       runs = rw columns_is (runs_as_printed contents found.core from.columns.1 (shown_columns from.columns.1) never prints);
     }
 
-says_over : (laws : Laws) (contents : Contents) (made : CreateTable) (statement : List Token) → create_table statement ≡ Some made → length made.columns < 2 ^ 64 → contents ≡ catalogue_with made → (source : List ℕ) → length source < 2 ^ 64
-    → (query : Query) → FromText source query → (found : Judged) → judged contents query.select ≡ Ok found → clash (models_of contents) (declared query found ∷ []) ≡ false
+says_over : (laws : Laws) (contents : Contents) (made : CreateTable) (statement : List Token) → create_table statement ≡ Some made → length made.columns < 2 ^ 64 → contents ≡ catalogue_with made → (source : List ℕ) (tokens : List Token) → token_list 1 source ≡ Ok tokens → length tokens < 2 ^ 64
+    → (query : Query) → FromText tokens query → (found : Judged) → judged contents query.select ≡ Ok found → clash (models_of contents) (declared query found ∷ []) ≡ false
     → SaysQuery contents query (layout.layout (codes "db") (models_of contents) (declared query found ∷ []))
-says_over laws contents made statement reads few is source small query text found judges apart =
+says_over laws contents made statement reads few is source tokens listed small query text found judges apart =
     subst (λ (c : Contents). SaysQuery c query (layout.layout (codes "db") (models_of c) (declared query found ∷ []))) (sym is)
-    (says_query laws made statement reads few source small query text found (subst (λ (c : Contents). judged c query.select ≡ Ok found) is judges) (subst (λ (c : Contents). clash (models_of c) (declared query found ∷ []) ≡ false) is apart))
+    (says_query laws made statement reads few source tokens listed small query text found (subst (λ (c : Contents). judged c query.select ≡ Ok found) is judges) (subst (λ (c : Contents). clash (models_of c) (declared query found ∷ []) ≡ false) is apart))
 
 -- an output that holds all files of the layout holds each at its path
 holds_files : (models : List ModelDecl) (signature : Signature) (model : Option ℕ) (before now : List File) → let query : QuerySig = record { source = codes "q.sql"; signature = signature; model = model } in
@@ -206,22 +218,24 @@ headline_of : (laws : Laws) (words : List (List ℕ)) (held before now files : L
 headline_of laws words held before now files command answer all =
     let from = accepted_from held files answer in
     let schema = schema_from from.schema from.contents from.replays in
-    let text = query_from from.source from.query.query from.query.annotated in
+    let text = query_from from.query.tokens from.query.query from.query.annotated in
     let asked : files_asked words held ≡ map in_folder (layout.layout (codes "db") (models_of from.contents) (declared from.query.query from.query.found ∷ [])) =
     rw (command, answer) from.query.laid_out in
     record {
       schema = from.schema;
       source = from.source;
       contents = from.contents;
+      tokens = from.query.tokens;
       query = from.query.query;
       files = layout.layout (codes "db") (models_of from.contents) (declared from.query.query from.query.found ∷ []);
       schema_held = from.schema_held;
       replays = from.replays;
       source_held = from.source_held;
+      listed = from.query.listed;
       annotated = from.query.annotated;
       put = asked;
       holds = holds_files (models_of from.contents) (declared from.query.query from.query.found).signature from.query.found.model before now (subst (λ (fs : List File). HoldsAll fs before now) asked all);
-      says = says_over laws from.contents schema.table schema.statement schema.reads (omega (arith, schema.small, from.schema_fits)) schema.holds from.source (omega (arith, from.source_fits)) from.query.query text from.query.found from.query.judges from.query.apart;
+      says = says_over laws from.contents schema.table schema.statement schema.reads (omega (arith, schema.small, from.schema_fits)) schema.holds from.source from.query.tokens from.query.listed (omega (arith, list_size 1 from.source from.query.tokens from.query.listed, from.source_fits)) from.query.query text from.query.found from.query.judges from.query.apart;
     }
 
 -- where the run is Done, its files are such

@@ -1,6 +1,5 @@
 pub mod Calls
 pub mod Causes
-pub mod Cutting
 pub mod Each
 pub mod Files
 pub mod FirstTypes
@@ -13,7 +12,7 @@ pub mod Placeless
 pub mod Plans
 pub mod Printed
 pub mod Readables
-pub mod Respelled
+pub mod Simple
 pub mod Sizes
 pub mod Stated
 pub mod Steps

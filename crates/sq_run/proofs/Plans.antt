@@ -1,5 +1,5 @@
 -- What stands behind the files of an accepted project.
-use Rattle.std.proofs.Common.{◌≡◌, ◌≢◌, ◌≤◌, ℕ, ◌+◌, ◌-◌, true, false, List, [], ◌∷◌, length, take, drop, map, Option, None, Some, Result, Ok, Err, refl, sym, ap, subst, inl, inr, arith, position, nat_le, slice_get, ◌==◌}
+use Rattle.std.proofs.Common.{◌≡◌, ◌≢◌, ◌≤◌, ℕ, ◌-◌, true, false, List, [], ◌∷◌, length, take, drop, map, Option, None, Some, Result, Ok, Err, refl, sym, ◌∙◌, ap, subst, inl, inr, arith, nat_le, slice_get}
 use Rattle.std.specs.Prelude.{codes}
 use Rattle.std.specs.Option.{option_map}
 use Rattle.std.proofs.lemmas.Bool.{cases_Bool, leb-true}
@@ -18,7 +18,11 @@ use Rattle.sq_core.specs.declared.declaration.ModelDecl.{ModelDecl}
 use Rattle.sq_core.specs.declared.declaration.QuerySig.{QuerySig}
 use Rattle.sq_core.specs.declared.node.Node.{Node}
 use Rattle.sq_core.specs.declared.signature.Output.{Output}
+use Rattle.sq_lexer.specs.Printed.{printed}
+use Rattle.sq_lexer.specs.TokenList.{token_list}
 use Rattle.sq_syntax.specs.declared.token.Token.{Token}
+use Rattle.sq_syntax.specs.declared.token.TokenKind.{TokenKind}
+use Rattle.sq_syntax.specs.declared.token.TokenKind.TheVariants.{Word, Quoted, Text, EText, Dollar, Number, Parameter, Named, Operator, Punct, Note}
 use Rattle.sq_run.specs.declared.halt.Finding.{Finding}
 use Rattle.sq_run.specs.declared.judge.Judged.{Judged}
 use Rattle.sq_run.specs.declared.query.Query.{Query}
@@ -28,13 +32,13 @@ use Rattle.sq_run.specs.declared.statements.CreateTable.{CreateTable}
 use Rattle.sq_run.specs.declared.statements.Select.{Select}
 use Rattle.sq_run.specs.Asked.{nothing_asked}
 use Rattle.sq_run.specs.Judged.{judged, judged_names, judged_select, model_used, unknown}
-use Rattle.sq_run.specs.Project.{schema_path, query_path, checked, whole_file, wanted_file, source, catalogue_with, catalogue_by, catalogue_of, table_of, models_of, declared, in_folder, written, project_by, project_of, configuration, generate}
-use Rattle.sq_run.specs.Query.{first_line, behind, before_end, query_name, annotated, printed, query_of}
-use Rattle.sq_run.specs.Statements.{is_identifier, one_statement, create_table, select}
-use Rattle.sq_run.specs.Tokens.{tokens_of}
+use Rattle.sq_run.specs.Project.{schema_path, query_path, checked, whole_file, wanted_file, source, catalogue_with, catalogue_by, catalogue_of, table_of, with_tokens, without_notes, models_of, declared, in_folder, written, project_by, project_with, project_of, configuration, generate}
+use Rattle.sq_run.specs.Names.{is_identifier}
+use Rattle.sq_run.specs.Query.{behind, before_end, query_name, noted_name, annotation, annotated, query_of}
+use Rattle.sq_run.specs.Statements.{one_statement, create_table, select}
 use Rattle.sq_run.proofs.FirstTypes.{placed_there, same_ok}
 use Rattle.sq_run.proofs.Options.{bind_some, and_then_ok}
-use Rattle.sq_run.proofs.Sizes.{text_size, table_size, query_size, statement_size}
+use Rattle.sq_run.proofs.Sizes.{list_size, notes_size, table_size, query_size, statement_size}
 
 same_answer : {A : Type 0} (r : Result A (List Finding)) (x y : A) → r ≡ Ok x → r ≡ Ok y → x ≡ y
 same_answer r x y one other = cc (one, other)
@@ -67,25 +71,31 @@ written_ok models queries files is = elim (cases_Bool (clash models queries)) [
 
 -- a judged query whose files are laid out
 pub record FromQuery (contents : Contents) (source : List ℕ) (files : List File) : Type 0 where
+  pub tokens : List Token
+  pub listed : token_list 1 source ≡ Ok tokens
   pub query : Query
-  pub annotated : query_of source ≡ Some query
+  pub annotated : query_of tokens ≡ Some query
   pub found : Judged
   pub judges : judged contents query.select ≡ Ok found
   pub apart : clash (models_of contents) (declared query found ∷ []) ≡ false
   pub laid_out : files ≡ map in_folder (layout (codes "db") (models_of contents) (declared query found ∷ []))
 
-project_ok : (contents : Contents) (source : List ℕ) (files : List File) → project_of contents (query_of source) ≡ Ok files → FromQuery contents source files
-project_ok contents source files is = by_query (query_of source) refl is
+project_ok : (contents : Contents) (source : List ℕ) (files : List File) → project_of contents source ≡ Ok files → FromQuery contents source files
+project_ok contents source files is = by_tokens (token_list 1 source) refl is
   where
-    by_judged : (query : Query) → query_of source ≡ Some query → (answer : Result Judged Refusal) → judged contents query.select ≡ answer → project_by contents query answer ≡ Ok files → FromQuery contents source files
-    by_judged query there (Err refusal) judges is = absurd (cc is)
-    by_judged query there (Ok found) judges is =
+    by_judged : (tokens : List Token) → token_list 1 source ≡ Ok tokens → (query : Query) → query_of tokens ≡ Some query → (answer : Result Judged Refusal) → judged contents query.select ≡ answer → project_by contents query answer ≡ Ok files → FromQuery contents source files
+    by_judged tokens listed query there (Err refusal) judges is = absurd (cc is)
+    by_judged tokens listed query there (Ok found) judges is =
         let laid = written_ok (models_of contents) (declared query found ∷ []) files is in
-        record { query = query; annotated = there; found = found; judges = judges; apart = laid.0; laid_out = laid.1 }
+        record { tokens = tokens; listed = listed; query = query; annotated = there; found = found; judges = judges; apart = laid.0; laid_out = laid.1 }
 
-    by_query : (found : Option Query) → query_of source ≡ found → project_of contents found ≡ Ok files → FromQuery contents source files
-    by_query None there is = absurd (cc is)
-    by_query (Some query) there is = by_judged query there (judged contents query.select) refl is
+    by_query : (tokens : List Token) → token_list 1 source ≡ Ok tokens → (found : Option Query) → query_of tokens ≡ found → project_with contents found ≡ Ok files → FromQuery contents source files
+    by_query tokens listed None there is = absurd (cc is)
+    by_query tokens listed (Some query) there is = by_judged tokens listed query there (judged contents query.select) refl is
+
+    by_tokens : (list : Result (List Token) Refusal) → token_list 1 source ≡ list → with_tokens query_path list (λ tokens. project_with contents (query_of tokens)) ≡ Ok files → FromQuery contents source files
+    by_tokens (Err refusal) listed is = absurd (cc is)
+    by_tokens (Ok tokens) listed is = by_query tokens listed (query_of tokens) refl is
 
 -- what an accepted project was made from
 pub record FromHeld (held files : List File) : Type 0 where
@@ -127,37 +137,33 @@ pub record FromSchema (schema : List ℕ) (contents : Contents) : Type 0 where
   pub holds : contents ≡ catalogue_with table
   pub small : length table.columns ≤ length schema
 
-table_ok : (schema : List ℕ) (table : CreateTable) → table_of schema ≡ Some table → (statement : List Token) × (create_table statement ≡ Some table) × (length table.columns ≤ length schema)
+table_ok : (tokens : List Token) (table : CreateTable) → table_of tokens ≡ Some table → (statement : List Token) × (create_table statement ≡ Some table) × (length table.columns ≤ length tokens)
 unfolding table_of
-table_ok schema table is =
-    let statement = bind_some (one_statement (tokens_of 0 1 schema)) _ table is in
-    let size = (statement_size (tokens_of 0 1 schema) statement.0 statement.1).0 in
-    (statement.0, statement.2, omega (arith, size, text_size 0 1 schema, table_size statement.0 table statement.2))
+table_ok tokens table is =
+    let statement = bind_some (one_statement (without_notes tokens)) _ table is in
+    let size = (statement_size (without_notes tokens) statement.0 statement.1).0 in
+    (statement.0, statement.2, omega (arith, size, notes_size tokens, table_size statement.0 table statement.2))
 
 pub schema_from : (schema : List ℕ) (contents : Contents) → catalogue_of schema ≡ Ok contents → FromSchema schema contents
-schema_from schema contents is =
-    let found = catalogue_ok (table_of schema) contents is in
-    let made = table_ok schema found.0 found.1 in
-    record { table = found.0; statement = made.0; reads = made.1; holds = found.2; small = made.2 }
+schema_from schema contents is = by_tokens (token_list 0 schema) refl is
+  where
+    by_tokens : (list : Result (List Token) Refusal) → token_list 0 schema ≡ list → with_tokens schema_path list (λ tokens. catalogue_by (table_of tokens)) ≡ Ok contents → FromSchema schema contents
+    by_tokens (Err refusal) listed is = absurd (cc is)
+    by_tokens (Ok tokens) listed is =
+        let found = catalogue_ok (table_of tokens) contents is in
+        let made = table_ok tokens found.0 found.1 in
+        record { table = found.0; statement = made.0; reads = made.1; holds = found.2; small = omega (arith, made.2, list_size 0 schema tokens listed) }
 
 -- the parts of a query's file
-pub record FromText (source : List ℕ) (query : Query) : Type 0 where
-  pub below : List ℕ
+pub record FromText (tokens : List Token) (query : Query) : Type 0 where
   pub statement : List Token
-  pub first : statement ≡ take (length (tokens_of 1 2 below) - 1) (tokens_of 1 2 below)
+  pub count : ℕ
+  pub stretch : statement ≡ take count (drop 1 tokens)
   pub reads : select statement ≡ Some query.select
   pub text : query.text ≡ printed statement
   pub named : is_identifier query.name ≡ true
-  pub small : length query.select.outputs ≤ length source
+  pub small : length query.select.outputs ≤ length tokens
   pub some : query.select.outputs ≢ []
-
-line_size : (bytes : List ℕ) (r : List ℕ × List ℕ) → first_line bytes ≡ Some r → length r.1 ≤ length bytes
-unfolding first_line
-line_size bytes r is = by_place (position (λ b. b == 10) bytes) is
-  where
-    by_place : (at : Option ℕ) → option_map (λ n. (take n bytes, drop (n + 1) bytes)) at ≡ Some r → length r.1 ≤ length bytes
-    by_place None is = absurd (cc is)
-    by_place (Some n) is = omega (arith, ap (λ (x : List ℕ × List ℕ). length x.1) (same_Some _ _ is), length-drop (n + 1) bytes)
 
 name_ok : (text name : List ℕ) → query_name text ≡ Some name → is_identifier name ≡ true
 unfolding query_name
@@ -166,33 +172,54 @@ name_ok text name is = elim (cases_Bool (is_identifier text)) [
   | inr bad ↦ absurd (cc (rw bad at is))
 ]
 
-annotated_ok : (source : List ℕ) (r : List ℕ × List ℕ) → annotated source ≡ Some r → (is_identifier r.0 ≡ true) × (length r.1 ≤ length source)
-unfolding annotated
-annotated_ok source r is =
-    let line = bind_some (first_line source) _ r is in
-    let rest = bind_some (behind (codes "-- name: ") line.0.0) _ r line.2 in
-    let front = bind_some (before_end (codes " :many") rest.0) _ r rest.2 in
-    let name = bind_some (query_name front.0) _ r front.2 in
-    let same = same_Some _ _ name.2 in
-    (subst (λ (x : List ℕ × List ℕ). is_identifier x.0 ≡ true) same (name_ok front.0 name.0 name.1), omega (arith, line_size source line.0 line.1, ap (λ (x : List ℕ × List ℕ). length x.1) same))
+noted_ok : (bytes name : List ℕ) → noted_name bytes ≡ Some name → is_identifier name ≡ true
+unfolding noted_name
+noted_ok bytes name is =
+    let rest = bind_some (behind (codes "-- name: ") bytes) _ name is in
+    let front = bind_some (before_end (codes " :many") rest.0) _ name rest.2 in
+    name_ok front.0 name front.2
 
-pub query_from : (source : List ℕ) (query : Query) → query_of source ≡ Some query → FromText source query
+annotation_ok : (kind : TokenKind) (bytes name : List ℕ) → annotation kind bytes ≡ Some name → is_identifier name ≡ true
+annotation_ok Note bytes name is = noted_ok bytes name is
+annotation_ok Word bytes name is = absurd (cc is)
+annotation_ok Quoted bytes name is = absurd (cc is)
+annotation_ok Text bytes name is = absurd (cc is)
+annotation_ok EText bytes name is = absurd (cc is)
+annotation_ok Dollar bytes name is = absurd (cc is)
+annotation_ok Number bytes name is = absurd (cc is)
+annotation_ok Parameter bytes name is = absurd (cc is)
+annotation_ok Named bytes name is = absurd (cc is)
+annotation_ok Operator bytes name is = absurd (cc is)
+annotation_ok Punct bytes name is = absurd (cc is)
+
+annotated_ok : (tokens : List Token) (r : List ℕ × List Token) → annotated tokens ≡ Some r → (is_identifier r.0 ≡ true) × (r.1 ≡ drop 1 tokens)
+unfolding annotated
+annotated_ok [] r is = absurd (cc is)
+annotated_ok (t ∷ ts) r is = by_name (annotation t.kind t.bytes) refl is
+  where
+    by_name : (name : Option (List ℕ)) → annotation t.kind t.bytes ≡ name → option_map (λ n. (n, ts)) name ≡ Some r → (is_identifier r.0 ≡ true) × (r.1 ≡ ts)
+    by_name None there is = absurd (cc is)
+    by_name (Some n) there is =
+        let same = same_Some _ _ is in
+        (subst (λ (x : List ℕ × List Token). is_identifier x.0 ≡ true) same (annotation_ok t.kind t.bytes n there), ap (λ (x : List ℕ × List Token). x.1) (sym same))
+
+pub query_from : (tokens : List Token) (query : Query) → query_of tokens ≡ Some query → FromText tokens query
 unfolding query_of
-query_from source query is =
-    let noted = bind_some (annotated source) _ query is in
-    let statement = bind_some (one_statement (tokens_of 1 2 noted.0.1)) _ query noted.2 in
+query_from tokens query is =
+    let noted = bind_some (annotated tokens) _ query is in
+    let statement = bind_some (one_statement noted.0.1) _ query noted.2 in
     let chosen = bind_some (select statement.0) _ query statement.2 in
-    let about = annotated_ok source noted.0 noted.1 in
-    let cut = statement_size (tokens_of 1 2 noted.0.1) statement.0 statement.1 in
+    let about = annotated_ok tokens noted.0 noted.1 in
+    let cut = statement_size noted.0.1 statement.0 statement.1 in
     let size = query_size statement.0 chosen.0 chosen.1 in
-    subst (FromText source) (same_Some _ _ chosen.2) (record {
-      below = noted.0.1;
+    subst (FromText tokens) (same_Some _ _ chosen.2) (record {
       statement = statement.0;
-      first = cut.1;
+      count = length noted.0.1 - 1;
+      stretch = cut.1 ∙ ap (λ (ts : List Token). take (length noted.0.1 - 1) ts) about.1;
       reads = chosen.1;
       text = refl;
       named = about.0;
-      small = omega (arith, size.0, cut.0, text_size 1 2 noted.0.1, about.1);
+      small = omega (arith, size.0, cut.0, ap length about.1, length-drop 1 tokens);
       some = size.1;
     })
 

@@ -17,8 +17,7 @@ use Rattle.sq_reader.specs.Parts.{allows}
 use Rattle.sq_reader.specs.Readable.{is_run, is_field, own_types_stand}
 use Rattle.sq_reader.specs.declared.parts.Class.TheVariants.{Word, Spelling}
 use Rattle.sq_run.proofs.FirstTypes.{IsFirst, ShowsFirst}
-use Rattle.sq_run.proofs.Models.{either_none}
-use Rattle.sq_run.proofs.Respelled.{and_left, and_right}
+use Rattle.sq_run.proofs.Models.{both, either_none}
 
 -- the forms of integer and text
 abbrev pub IsFirstForm : List ℕ → Type 0
@@ -54,8 +53,8 @@ all_fields_form outputs all = fields_form [] outputs all
 spells : (xs : List ℕ) → list_all (allows Word) xs ≡ true → list_all (allows Spelling) xs ≡ true
 spells [] is = refl
 spells (b ∷ xs) is =
-    let here : (is_ascii_alphanumeric b || (b == 95)) ≡ true = and_left (is_ascii_alphanumeric b || (b == 95)) (list_all (allows Word) xs) is in
-    let later : list_all (allows Word) xs ≡ true = and_right (is_ascii_alphanumeric b || (b == 95)) (list_all (allows Word) xs) is in
+    let here : (is_ascii_alphanumeric b || (b == 95)) ≡ true = (both (is_ascii_alphanumeric b || (b == 95)) (list_all (allows Word) xs) is).0 in
+    let later : list_all (allows Word) xs ≡ true = (both (is_ascii_alphanumeric b || (b == 95)) (list_all (allows Word) xs) is).1 in
     rw (here) (spells xs later)
 
 -- a word is spelled as a type is
@@ -78,8 +77,8 @@ word_run (b ∷ xs) is = is
 pub fields_spelled : (fs : List ShownField) → AllByRecursion HasFirstForm fs → list_all (λ (f : ShownField). is_word f.name) fs ≡ true → list_all is_field fs ≡ true
 fields_spelled [] all words = refl
 fields_spelled (f ∷ fs) all words =
-    let here : is_word f.name ≡ true = and_left (is_word f.name) (list_all (λ (g : ShownField). is_word g.name) fs) words in
-    let later = and_right (is_word f.name) (list_all (λ (g : ShownField). is_word g.name) fs) words in
+    let here : is_word f.name ≡ true = (both (is_word f.name) (list_all (λ (g : ShownField). is_word g.name) fs) words).0 in
+    let later = (both (is_word f.name) (list_all (λ (g : ShownField). is_word g.name) fs) words).1 in
     let run : is_run Word f.name ≡ true = word_run f.name here in
     rw (run, form_spelled f.of all.0) (fields_spelled fs all.1 later)
 

@@ -15,7 +15,9 @@ use Rattle.sq_core.specs.Values.{Database, DatabaseFits}
 use Rattle.sq_core.specs.declared.node.CoreStatement.{CoreStatement}
 use Rattle.sq_core.specs.declared.signature.Language.TheVariants.{Go}
 use Rattle.sq_core.specs.declared.signature.ShownField.{ShownField}
+use Rattle.sq_lexer.specs.TokenList.{token_list}
 use Rattle.sq_reader.specs.Reading.{Reads}
+use Rattle.sq_syntax.specs.declared.token.Token.{Token}
 use Rattle.sq_run.specs.declared.judge.Judged.{Judged}
 use Rattle.sq_run.specs.declared.query.Query.{Query}
 use Rattle.sq_run.specs.declared.status.Status.{Status}
@@ -25,7 +27,6 @@ use Rattle.sq_run.specs.Project.{schema_path, query_path, catalogue_of, declared
 use Rattle.sq_run.specs.Query.{query_of}
 use Rattle.sq_run.specs.Run.{Outside, files_asked}
 use Rattle.sq_run.specs.Statements.{select, ◌>>=◌}
-use Rattle.sq_run.specs.Tokens.{tokens_of}
 
 -- what was judged, where it was not refused
 abbrev pub accepted : {A : Type 0} → Result A Refusal → Option A
@@ -34,7 +35,7 @@ accepted (Err refusal) = None
 
 -- what the printed text of a query is judged to be: its tokens, the one statement that they spell, and its core
 abbrev pub judged_text : Contents → List ℕ → Option Judged
-judged_text contents text = select (tokens_of 1 1 text) >>= λ query. accepted (judged contents query)
+judged_text contents text = accepted (token_list 1 text) >>= select >>= λ query. accepted (judged contents query)
 
 -- each row that is returned fits the printed columns
 abbrev pub ReturnsFit : List ShownField → Rows → Type 0
@@ -67,6 +68,7 @@ pub record IsHeadline (words : List (List ℕ)) (held now : List File) : Type 0 
   pub schema : List ℕ
   pub source : List ℕ
   pub contents : Contents
+  pub tokens : List Token
   pub query : Query
   pub files : List File
   -- the schema is held and gives the catalogue
@@ -74,7 +76,8 @@ pub record IsHeadline (words : List (List ℕ)) (held now : List File) : Type 0 
   pub replays : catalogue_of schema ≡ Ok contents
   -- the query's file is held and has the annotated query
   pub source_held : bytes_at held query_path ≡ Some source
-  pub annotated : query_of source ≡ Some query
+  pub listed : token_list 1 source ≡ Ok tokens
+  pub annotated : query_of tokens ≡ Some query
   -- these files were put, and the output holds them
   pub put : files_asked words held ≡ map in_folder files
   pub holds : HoldsFiles files now

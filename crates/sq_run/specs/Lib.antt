@@ -5,6 +5,7 @@ pub mod Halts
 pub mod Headline
 pub mod Judged
 pub mod Lines
+pub mod Names
 pub mod Printed
 pub mod Project
 pub mod Query
@@ -12,4 +13,3 @@ pub mod Read
 pub mod Run
 pub mod Statements
 pub mod Status
-pub mod Tokens

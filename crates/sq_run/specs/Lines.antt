@@ -19,7 +19,13 @@ line path text = shown path ++ text ++ 10 ∷ []
 
 -- the word of a refusal's number
 abbrev pub word : ℕ → List ℕ
-word number = if number == 10 then codes "UnknownTable" else (if number == 11 then codes "UnknownColumn" else codes "NotYet")
+word number =
+    if number == 1 then codes "Unterminated"
+    else (if number == 2 then codes "BadByte"
+    else (if number == 3 then codes "NotUtf8"
+    else (if number == 10 then codes "UnknownTable"
+    else (if number == 11 then codes "UnknownColumn"
+    else codes "NotYet"))))
 
 -- a text that a refusal keeps, and a space before it; an empty one is left away
 abbrev pub kept : List ℕ → List ℕ

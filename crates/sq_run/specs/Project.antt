@@ -1,5 +1,5 @@
 -- What the program makes of the files held.
-use Rattle.std.specs.Prelude.{◌≡◌, ℕ, Bool, true, false, nat_le, if◌then◌else◌, List, [], ◌∷◌, ◌++◌, map, length, Option, None, Some, unwrap_or, Result, Ok, Err, codes}
+use Rattle.std.specs.Prelude.{◌≡◌, ℕ, Bool, true, false, nat_le, if◌then◌else◌, List, [], ◌∷◌, ◌++◌, map, filter, length, Option, None, Some, unwrap_or, Result, Ok, Err, codes}
 use Rattle.std.specs.Option.{option_map}
 use Rattle.std.specs.Str.{bytes_eq}
 use Rattle.sq_base.specs.Files.{bytes_at, is_file, is_folder}
@@ -14,6 +14,10 @@ use Rattle.sq_core.specs.Names.{clash}
 use Rattle.sq_core.specs.declared.declaration.ModelDecl.{ModelDecl}
 use Rattle.sq_core.specs.declared.declaration.QuerySig.{QuerySig}
 use Rattle.sq_core.specs.declared.signature.Command.TheVariants.{Many}
+use Rattle.sq_lexer.specs.TokenList.{token_list}
+use Rattle.sq_syntax.specs.declared.token.Token.{Token}
+use Rattle.sq_syntax.specs.declared.token.TokenKind.{TokenKind}
+use Rattle.sq_syntax.specs.declared.token.TokenKind.TheVariants.{Note}
 use Rattle.sq_run.specs.declared.halt.Finding.{Finding}
 use Rattle.sq_run.specs.declared.halt.Finding.TheVariants.{Configuration as InConfiguration, Source as InSource}
 use Rattle.sq_run.specs.declared.halt.Halt.{Halt}
@@ -29,7 +33,6 @@ use Rattle.sq_run.specs.Asked.{Asked, Follows, nothing_asked, and_then}
 use Rattle.sq_run.specs.Judged.{judged, output_of}
 use Rattle.sq_run.specs.Query.{query_of, before_end}
 use Rattle.sq_run.specs.Statements.{one_statement, create_table, ◌>>=◌}
-use Rattle.sq_run.specs.Tokens.{tokens_of}
 
 -- the paths of the configuration and of its two sources
 abbrev pub configuration_path : List ℕ
@@ -66,6 +69,11 @@ wanted_file path files = record { paths = path ∷ []; answer = wanted path file
 abbrev pub source : List ℕ → List File → Asked (List ℕ)
 source path files = and_then (wanted_file path files) (λ _. whole_file Source path files)
 
+-- what is made of a source's tokens, unless its bytes have none
+abbrev pub with_tokens : {A : Type 0} → List ℕ → Result (List Token) Refusal → (List Token → Result A (List Finding)) → Result A (List Finding)
+with_tokens path (Ok tokens) more = more tokens
+with_tokens path (Err refusal) more = Err (InSource path refusal ∷ [])
+
 -- whether these are the bytes of the default configuration, with a newline behind them or without
 abbrev pub is_default : List ℕ → Bool
 is_default bytes = bytes_eq (unwrap_or (before_end (10 ∷ []) bytes) bytes) DEFAULT.now
@@ -83,15 +91,24 @@ abbrev pub catalogue_by : Option CreateTable → Result Contents (List Finding)
 catalogue_by (Some table) = Ok (catalogue_with table)
 catalogue_by None = Err (not_yet Source schema_path ∷ [])
 
+-- whether a token isn't a comment that names a query: a schema has no use for these
+abbrev pub is_no_note : TokenKind → Bool
+is_no_note Note = false
+is_no_note _ = true
+
+-- the tokens of a schema
+abbrev pub without_notes : List Token → List Token
+without_notes tokens = filter (λ (token : Token). is_no_note token.kind) tokens
+
 -- the table that the schema's statement makes
-unfoldable pub table_of : List ℕ → Option CreateTable
-table_of bytes = do
-  statement ← one_statement (tokens_of 0 1 bytes)
+unfoldable pub table_of : List Token → Option CreateTable
+table_of tokens = do
+  statement ← one_statement (without_notes tokens)
   create_table statement
 
 -- what the schema is judged to be
 abbrev pub catalogue_of : List ℕ → Result Contents (List Finding)
-catalogue_of bytes = catalogue_by (table_of bytes)
+catalogue_of bytes = with_tokens schema_path (token_list 0 bytes) (λ tokens. catalogue_by (table_of tokens))
 
 -- the declaration of a table's model
 abbrev pub model_of : Table → ModelDecl
@@ -122,10 +139,14 @@ abbrev pub project_by : Contents → Query → Result Judged Refusal → Result 
 project_by contents query (Ok judged) = written (models_of contents) (declared query judged ∷ [])
 project_by contents query (Err refusal) = Err (InSource query_path refusal ∷ [])
 
+-- the files of the query that a file has
+abbrev pub project_with : Contents → Option Query → Result (List File) (List Finding)
+project_with contents (Some query) = project_by contents query (judged contents query.select)
+project_with contents None = Err (not_yet Source query_path ∷ [])
+
 -- what the query's file is judged to be, over the catalogue
-abbrev pub project_of : Contents → Option Query → Result (List File) (List Finding)
-project_of contents (Some query) = project_by contents query (judged contents query.select)
-project_of contents None = Err (not_yet Source query_path ∷ [])
+abbrev pub project_of : Contents → List ℕ → Result (List File) (List Finding)
+project_of contents bytes = with_tokens query_path (token_list 1 bytes) (λ tokens. project_with contents (query_of tokens))
 
 -- reads the configuration
 abbrev pub configuration : List File → Asked (Unit {0})
@@ -138,7 +159,7 @@ generate files =
     and_then (source schema_path files) (λ schema.
     and_then (nothing_asked (catalogue_of schema)) (λ contents.
     and_then (source query_path files) (λ query.
-    nothing_asked (project_of contents (query_of query))))))
+    nothing_asked (project_of contents query)))))
 
 -- whether the words are those of a command
 abbrev pub is_generate : List (List ℕ) → Bool

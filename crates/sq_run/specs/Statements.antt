@@ -1,18 +1,20 @@
 -- The first statements that are read: a table of integer and text columns, and a query for columns of one table.
-use Rattle.std.specs.Prelude.{ℕ, suc, zero, ◌&&◌, ◌||◌, nat_le, not, Bool, true, false, if◌then◌else◌, List, [], ◌∷◌, length, map, codes, Option, None, Some, ◌-◌, take, drop}
+use Rattle.std.specs.Prelude.{ℕ, suc, zero, ◌&&◌, ◌||◌, Bool, true, false, if◌then◌else◌, List, [], ◌∷◌, length, codes, Option, None, Some, ◌-◌, take, drop}
 use Rattle.std.specs.Option.{option_map}
-use Rattle.std.specs.List.{list_all, list_any}
-use Rattle.std.specs.Str.{bytes_eq, str_eq_ignore_ascii_case, str_to_ascii_lowercase}
-use Rattle.std.specs.Char.{is_ascii_digit}
+use Rattle.std.specs.List.{list_any}
+use Rattle.std.specs.Str.{bytes_eq}
+use denote.Enum.Bare.{sameb}
 use Rattle.sq_base.specs.declared.types.PgType.{PgType}
 use Rattle.sq_base.specs.declared.types.Scalar.TheVariants.{Integer, Text}
 use Rattle.sq_catalog.specs.declared.table.Column.{Column}
+use Rattle.sq_syntax.specs.contracts.TokenKind.{the_type}
 use Rattle.sq_syntax.specs.declared.token.Token.{Token}
+use Rattle.sq_syntax.specs.declared.token.TokenKind.{TokenKind}
+use Rattle.sq_syntax.specs.declared.token.TokenKind.TheVariants.{Word, Punct}
 use Rattle.sq_run.specs.declared.statements.CreateTable.{CreateTable}
 use Rattle.sq_run.specs.declared.statements.Named.{Named}
 use Rattle.sq_run.specs.declared.statements.Select.{Select}
-use Rattle.sq_run.specs.declared.words.TheConstants.{RESERVED}
-use Rattle.sq_run.specs.Tokens.{is_run_byte}
+use Rattle.sq_run.specs.Names.{same_word, name_text}
 
 infixl 10 ◌>>=◌
 abbrev pub ◌>>=◌ : {A B : Type 0} → Option A → (A → Option B) → Option B
@@ -23,48 +25,27 @@ None >>= f = None
 abbrev pub Part : Type 0 → Type 0
 Part A = Option (A × List Token)
 
--- whether two texts are equal but for the case of ASCII letters
-unfoldable pub same_word : List ℕ → List ℕ → Bool
-same_word a b = str_eq_ignore_ascii_case a b
+-- whether two tokens are of one kind
+unfoldable pub same_kind : TokenKind → TokenKind → Bool
+same_kind a b = sameb the_type a b
 
--- whether a token is this word in any letter case, or this mark
-abbrev pub is : List ℕ → Token → Bool
-is text token = same_word token.bytes text
-
--- letters, digits and underscores alone
-abbrev pub are_run_bytes : List ℕ → Bool
-are_run_bytes bytes = list_all is_run_byte bytes
-
--- a text is an identifier: an ASCII letter or an underscore, then these and digits
-abbrev pub is_identifier : List ℕ → Bool
-is_identifier [] = false
-is_identifier (b ∷ bytes) = not (is_ascii_digit b) && are_run_bytes (b ∷ bytes)
-
--- whether a word is among these, in any letter case
-abbrev pub is_among : List (List ℕ) → List ℕ → Bool
-is_among words text = list_any (λ word. same_word text word) words
-
--- a word that is a name only where it is quoted
-unfoldable pub is_reserved : List ℕ → Bool
-is_reserved text = is_among (map (λ word. word.now) RESERVED) text
-
--- a name is an identifier of at most 63 bytes that is no reserved word
-abbrev pub is_name : List ℕ → Bool
-is_name text = (is_identifier text && nat_le (length text) 63) && not (is_reserved text)
+-- whether a token of this kind is this word in any letter case, or this mark
+abbrev pub is : TokenKind → List ℕ → Token → Bool
+is kind text token = same_kind token.kind kind && same_word token.bytes text
 
 -- the tokens after this word or mark
-unfoldable pub after : List ℕ → List Token → Option (List Token)
-after text [] = None
-after text (token ∷ tokens) = if is text token then Some tokens else None
+unfoldable pub after : TokenKind → List ℕ → List Token → Option (List Token)
+after kind text [] = None
+after kind text (token ∷ tokens) = if is kind text token then Some tokens else None
 
--- a name is looked up with its ASCII letters lowered
-abbrev pub name_of : Token → Named
-name_of token = record { name = str_to_ascii_lowercase token.bytes; place = token.place }
+-- a name at its place
+abbrev pub named : Token → List ℕ → Named
+named token name = record { name = name; place = token.place }
 
 -- a name
 unfoldable pub name_at : List Token → Part Named
 name_at [] = None
-name_at (token ∷ tokens) = if is_name token.bytes then Some (name_of token, tokens) else None
+name_at (token ∷ tokens) = option_map (λ name. (named token name, tokens)) (name_text token.kind token.bytes)
 
 abbrev pub integer : PgType
 integer = record { scalar = Integer; array = false }
@@ -75,13 +56,13 @@ text = record { scalar = Text; array = false }
 -- the type integer or text
 unfoldable pub type_at : List Token → Part PgType
 type_at [] = None
-type_at (token ∷ tokens) = if is (codes "integer") token then Some (integer, tokens) else (if is (codes "text") token then Some (text, tokens) else None)
+type_at (token ∷ tokens) = if is Word (codes "integer") token then Some (integer, tokens) else (if is Word (codes "text") token then Some (text, tokens) else None)
 
 -- whether NOT NULL stands here, and the tokens after it
 unfoldable pub not_null_at : List Token → Part Bool
-not_null_at tokens = elim (after (codes "not") tokens) [
+not_null_at tokens = elim (after Word (codes "not") tokens) [
   | None ↦ Some (false, tokens)
-  | Some later ↦ option_map (λ rest. (true, rest)) (after (codes "null") later)
+  | Some later ↦ option_map (λ rest. (true, rest)) (after Word (codes "null") later)
 ]
 
 -- a column: a name, a type and NOT NULL or nothing
@@ -93,10 +74,10 @@ column_at tokens = do
   Some (record { name = name.0.name; of = of.0; not_null = not_null.0 }, not_null.1)
 
 -- what follows an item of a list: a comma and more items, or the closing word or mark
-unfoldable pub next : List ℕ → List Token → Part Bool
-next close tokens = elim (after (codes ",") tokens) [
+unfoldable pub next : TokenKind → List ℕ → List Token → Part Bool
+next kind close tokens = elim (after Punct (codes ",") tokens) [
   | Some later ↦ Some (true, later)
-  | None ↦ option_map (λ later. (false, later)) (after close tokens)
+  | None ↦ option_map (λ later. (false, later)) (after kind close tokens)
 ]
 
 -- an item before the items after it
@@ -104,16 +85,16 @@ abbrev pub with_item : {A : Type 0} → A → Part (List A) → Part (List A)
 with_item item later = option_map (λ r. (item ∷ r.0, r.1)) later
 
 -- at most so many items with commas between them, up to the closing word or mark
-abbrev pub items_from : {A : Type 0} → (List Token → Part A) → List ℕ → ℕ → List Token → Part (List A)
-items_from item close zero tokens = None
-items_from {A = A} item close (suc n) tokens = do
+abbrev pub items_from : {A : Type 0} → (List Token → Part A) → TokenKind → List ℕ → ℕ → List Token → Part (List A)
+items_from item kind close zero tokens = None
+items_from {A = A} item kind close (suc n) tokens = do
   first ← item tokens
-  more ← next close first.1
-  if more.0 then with_item first.0 (items_from {A = A} item close n more.1) else Some (first.0 ∷ [], more.1)
+  more ← next kind close first.1
+  if more.0 then with_item first.0 (items_from {A = A} item kind close n more.1) else Some (first.0 ∷ [], more.1)
 
 -- items with commas between them, up to the closing word or mark
-abbrev pub items_at : {A : Type 0} → (List Token → Part A) → List ℕ → List Token → Part (List A)
-items_at item close tokens = items_from item close (length tokens) tokens
+abbrev pub items_at : {A : Type 0} → (List Token → Part A) → TokenKind → List ℕ → List Token → Part (List A)
+items_at item kind close tokens = items_from item kind close (length tokens) tokens
 
 -- nothing follows
 unfoldable pub ended : List Token → Option (Unit {0})
@@ -135,16 +116,16 @@ distinct columns = if has_twin columns then None else Some columns
 
 -- the one statement of a file, which a semicolon ends, without it
 unfoldable pub one_statement : List Token → Option (List Token)
-one_statement tokens = option_map (λ end. take (length tokens - 1) tokens) (after (codes ";") (drop (length tokens - 1) tokens))
+one_statement tokens = option_map (λ end. take (length tokens - 1) tokens) (after Punct (codes ";") (drop (length tokens - 1) tokens))
 
 -- CREATE TABLE name ( column {, column} )
 unfoldable pub create_table : List Token → Option CreateTable
 create_table tokens = do
-  tokens ← after (codes "create") tokens
-  tokens ← after (codes "table") tokens
+  tokens ← after Word (codes "create") tokens
+  tokens ← after Word (codes "table") tokens
   name ← name_at tokens
-  tokens ← after (codes "(") name.1
-  columns ← items_at column_at (codes ")") tokens
+  tokens ← after Punct (codes "(") name.1
+  columns ← items_at column_at Punct (codes ")") tokens
   end ← ended columns.1
   columns ← distinct columns.0
   Some (record { name = name.0.name; columns = columns })
@@ -152,8 +133,8 @@ create_table tokens = do
 -- SELECT name {, name} FROM name
 unfoldable pub select : List Token → Option Select
 select tokens = do
-  tokens ← after (codes "select") tokens
-  outputs ← items_at name_at (codes "from") tokens
+  tokens ← after Word (codes "select") tokens
+  outputs ← items_at name_at Word (codes "from") tokens
   table ← name_at outputs.1
   end ← ended table.1
   Some (record { outputs = outputs.0; table = table.0 })

@@ -5,14 +5,13 @@ mod deliver;
 mod halt;
 mod judge;
 mod lines;
+mod names;
 mod project;
 mod query;
 mod read;
 mod run;
 mod statements;
 mod status;
-mod tokens;
-mod words;
 
 pub use halt::{Finding, Halt};
 pub use run::sqlc;

@@ -48,6 +48,9 @@ fn word(number: u8) -> &'static str
     ensures { result.now ≡ Lines.word number }
 {
     match number {
+        1 => "Unterminated",
+        2 => "BadByte",
+        3 => "NotUtf8",
         10 => "UnknownTable",
         11 => "UnknownColumn",
         _ => "NotYet",

@@ -1,10 +1,11 @@
-ghost use Rattle.std.specs.Prelude.{◌≡◌, ◌≤◌, ◌∷◌, [], length, map, Some, string_bytes, codes, IfOk};
+ghost use Rattle.std.specs.Prelude.{◌≡◌, ◌≤◌, ◌∷◌, [], length, map, Some, Ok, string_bytes, codes, IfOk};
 ghost use Rattle.sq_core.specs.Layout.{layout};
+ghost use Rattle.sq_lexer.specs.TokenList.{token_list};
 ghost use Rattle.sq_run.specs.Asked.{Follows, Judges};
 ghost use Rattle.sq_run.specs.Halts.{IsRefusalOf};
 ghost use Rattle.sq_run.specs.Judged.{output_of};
 ghost use Rattle.sq_run.specs.Project;
-ghost use Rattle.sq_run.specs.Project.{query_path, configuration, configured, catalogue_by, table_of, catalogue_of, models_of, declared, in_folder, written, project_of, generate, is_default, is_generate, Judging};
+ghost use Rattle.sq_run.specs.Project.{query_path, configuration, configured, with_tokens, catalogue_by, table_of, catalogue_of, models_of, declared, in_folder, written, project_with, project_of, generate, is_default, is_generate, Judging};
 ghost use Rattle.sq_run.specs.Query.{query_of};
 ghost use Rattle.sq_run.specs.Read.{Gives};
 ghost use Rattle.sq_run.specs.declared.halt.Finding.TheVariants.{Source as InSource};
@@ -14,12 +15,13 @@ use crate::judge::{Judged, judge, output_of};
 use crate::query::{Query, read_query};
 use crate::read::{Role, one, read_source, read_whole, refuse};
 use crate::statements::{CreateTable, NoForm, one_statement, read_create_table};
-use crate::tokens::tokens;
 use crate::{Finding, Halt};
 use sq_base::{Fault, File, List, Name, Refusal, Tree};
 use sq_catalog::{Catalogue, Change, Table};
 use sq_core::{Command, ModelDecl, Output, QuerySig, Signature};
 use sq_go::{go_clash, go_files};
+use sq_lexer::tokens;
+use sq_syntax::{Token, TokenKind};
 use std::alloc::{AllocError, Global};
 
 /// The configuration that is read so far.
@@ -52,13 +54,50 @@ fn read_configuration<T: Tree>(alloc: Global, tree: &mut T) -> Result<(), Halt>
     configure(alloc, bytes.as_slice())
 }
 
+/// The one finding of a source file.
+fn refuse_source(alloc: Global, path: &str, refusal: Refusal) -> Halt
+    ensures { IsRefusalOf (InSource path.now refusal ∷ []) result }
+{
+    let Ok(path) = Name::new(alloc, path) else {
+        return Halt::Memory;
+    };
+    match one(alloc, Finding::Source { path, refusal }) {
+        Ok(findings) => Halt::Refused(findings),
+        Err(_) => Halt::Memory,
+    }
+}
+
+/// The tokens of a source file.
+fn read_tokens(alloc: Global, path: &str, file: u32, bytes: &[u8]) -> Result<List<Token>, Halt>
+    requires { length bytes.now ≤ LIMIT }
+    ensures { Judges (with_tokens path.now (token_list file bytes.now) Ok) result }
+{
+    match tokens(alloc, file, bytes) {
+        Ok(tokens) => Ok(tokens),
+        Err(Fault::Refused(refusal)) => Err(refuse_source(alloc, path, refusal)),
+        Err(Fault::Memory) => Err(Halt::Memory),
+    }
+}
+
+/// The tokens but for the comments that name queries.
+fn without_notes(alloc: Global, tokens: List<Token>) -> Result<List<Token>, AllocError>
+    ensures { IfOk result (λ kept. kept ≡ Project.without_notes tokens) }
+{
+    let mut kept = List::new(alloc);
+    for token in tokens.into_vec() {
+        if token.kind != TokenKind::Note {
+            kept.push(token)?;
+        }
+    }
+    Ok(kept)
+}
+
 /// The statement of a schema.
 #[tactic(auto, unfolding(crate::specs::Project::table_of))]
-fn read_schema(alloc: Global, bytes: &[u8]) -> Result<CreateTable, NoForm>
-    requires { length bytes.now ≤ LIMIT }
-    ensures { Gives (λ r. r) result (table_of bytes.now) }
+fn read_schema(alloc: Global, tokens: List<Token>) -> Result<CreateTable, NoForm>
+    ensures { Gives (λ r. r) result (table_of tokens) }
 {
-    let tokens = tokens(alloc, 0, 1, bytes)?;
+    let tokens = without_notes(alloc, tokens)?;
     let statement = one_statement(tokens.as_slice())?;
     read_create_table(alloc, statement)
 }
@@ -84,16 +123,24 @@ fn catalogue_with(alloc: Global, table: CreateTable) -> Result<Catalogue, Halt>
     }
 }
 
+/// Judges the tokens of the schema.
+fn catalogue_by(alloc: Global, tokens: List<Token>) -> Result<Catalogue, Halt>
+    ensures { Judges (catalogue_by (table_of tokens)) result }
+{
+    match read_schema(alloc, tokens) {
+        Ok(table) => catalogue_with(alloc, table),
+        Err(NoForm::Other) => Err(refuse(alloc, Role::Source, "schema.sql")),
+        Err(NoForm::Memory) => Err(Halt::Memory),
+    }
+}
+
 /// Judges the schema.
 fn replay(alloc: Global, bytes: &[u8]) -> Result<Catalogue, Halt>
     requires { length bytes.now ≤ LIMIT }
     ensures { Judges (catalogue_of bytes.now) result }
 {
-    match read_schema(alloc, bytes) {
-        Ok(table) => catalogue_with(alloc, table),
-        Err(NoForm::Other) => Err(refuse(alloc, Role::Source, "schema.sql")),
-        Err(NoForm::Memory) => Err(Halt::Memory),
-    }
+    let tokens = read_tokens(alloc, "schema.sql", 0, bytes)?;
+    catalogue_by(alloc, tokens)
 }
 
 /// The columns of a table's model.
@@ -209,26 +256,13 @@ fn declarations(
     Ok((models, queries))
 }
 
-/// Refuses the query for what the judge says.
-fn refuse_query(alloc: Global, refusal: Refusal) -> Halt
-    ensures { IsRefusalOf (InSource query_path refusal ∷ []) result }
-{
-    let Ok(path) = Name::new(alloc, "q.sql") else {
-        return Halt::Memory;
-    };
-    match one(alloc, Finding::Source { path, refusal }) {
-        Ok(findings) => Halt::Refused(findings),
-        Err(_) => Halt::Memory,
-    }
-}
-
 /// The files of a query.
 fn write_query(alloc: Global, catalogue: &Catalogue, query: Query) -> Result<List<File>, Halt>
-    ensures { Judges (project_of catalogue.now (Some query)) result }
+    ensures { Judges (project_with catalogue.now (Some query)) result }
 {
     let judged = match judge(alloc, catalogue, &query.select) {
         Ok(judged) => judged,
-        Err(Fault::Refused(refusal)) => return Err(refuse_query(alloc, refusal)),
+        Err(Fault::Refused(refusal)) => return Err(refuse_source(alloc, "q.sql", refusal)),
         Err(Fault::Memory) => return Err(Halt::Memory),
     };
     match declarations(alloc, catalogue, query, judged) {
@@ -237,16 +271,24 @@ fn write_query(alloc: Global, catalogue: &Catalogue, query: Query) -> Result<Lis
     }
 }
 
-/// Judges the query's file over the catalogue.
-fn judge_queries(alloc: Global, catalogue: &Catalogue, bytes: &[u8]) -> Result<List<File>, Halt>
-    requires { length bytes.now ≤ LIMIT }
-    ensures { Judges (project_of catalogue.now (query_of bytes.now)) result }
+/// Judges the tokens of the query's file over the catalogue.
+fn judge_tokens(alloc: Global, catalogue: &Catalogue, tokens: &[Token]) -> Result<List<File>, Halt>
+    ensures { Judges (project_with catalogue.now (query_of tokens.now)) result }
 {
-    match read_query(alloc, bytes) {
+    match read_query(alloc, tokens) {
         Ok(query) => write_query(alloc, catalogue, query),
         Err(NoForm::Other) => Err(refuse(alloc, Role::Source, "q.sql")),
         Err(NoForm::Memory) => Err(Halt::Memory),
     }
+}
+
+/// Judges the query's file over the catalogue.
+fn judge_queries(alloc: Global, catalogue: &Catalogue, bytes: &[u8]) -> Result<List<File>, Halt>
+    requires { length bytes.now ≤ LIMIT }
+    ensures { Judges (project_of catalogue.now bytes.now) result }
+{
+    let tokens = read_tokens(alloc, "q.sql", 1, bytes)?;
+    judge_tokens(alloc, catalogue, tokens.as_slice())
 }
 
 /// Reads a project and judges it.

@@ -1,14 +1,12 @@
-ghost use Rattle.std.specs.Prelude.{◌≡◌, ◌<◌, ◌≤◌, ◌++◌, ◌+◌, ◌==◌, position, length, codes, IfOk, IfSome, OnOk};
-ghost use Rattle.sq_run.specs.Query;
-ghost use Rattle.sq_run.specs.Query.{first_line, behind, before_end, query_name, annotated, gap_text, spaced, printed, query_of};
+ghost use Rattle.std.specs.Prelude.{◌≡◌, ◌++◌, IfOk, OnOk};
+ghost use Rattle.sq_lexer.specs.Printed.{gap_text, spaced, printed};
+ghost use Rattle.sq_run.specs.Query.{behind, before_end, query_name, noted_name, annotated, query_of};
 ghost use Rattle.sq_run.specs.Read.{Gives};
-ghost use Rattle.sq_run.specs.declared.read.TheConstants.{LIMIT};
 
-use crate::read::LIMIT;
-use crate::statements::{NoForm, Select, ascii, is_identifier, one_statement, read_select};
-use crate::tokens::tokens;
+use crate::names::{ascii, is_identifier};
+use crate::statements::{NoForm, Select, one_statement, read_select};
 use sq_base::{List, Name};
-use sq_syntax::{Gap, Token};
+use sq_syntax::{Gap, Token, TokenKind};
 use std::alloc::{AllocError, Global};
 
 /// A query with its name, what its statement asks for, and its printed text.
@@ -17,26 +15,6 @@ pub struct Query {
     pub name: Name,
     pub select: Select,
     pub text: List<u8>,
-}
-
-/// The text before the first newline, and the text behind it.
-#[tactic(auto, unfolding(crate::specs::Query::first_line))]
-fn first_line(bytes: &[u8]) -> Result<(&[u8], &[u8]), NoForm>
-    ensures line { Gives (λ r. (r.0.now, r.1.now)) result (first_line bytes.now) }
-    ensures shorter { IfOk result (λ r. length r.1.now < length bytes.now) }
-{
-    match newline(bytes) {
-        Some(at) => Ok((&bytes[..at], &bytes[at + 1..])),
-        None => Err(NoForm::Other),
-    }
-}
-
-/// The place of the first newline.
-fn newline(bytes: &[u8]) -> Option<usize>
-    ensures place { result ≡ position (λ b. b == 10) bytes.now }
-    ensures within { IfSome result (λ at. at < length bytes.now) }
-{
-    bytes.iter().position(|byte| *byte == b'\n')
 }
 
 /// What stands behind the front of a text.
@@ -65,16 +43,27 @@ fn query_name(alloc: Global, text: &[u8]) -> Result<Name, NoForm>
     }
 }
 
-/// The name that the annotation gives, and the text below its line.
-#[tactic(auto, unfolding(crate::specs::Query::annotated))]
-fn annotated<'a>(alloc: Global, bytes: &'a [u8]) -> Result<(Name, &'a [u8]), NoForm>
-    ensures query { Gives (λ r. (r.0, r.1.now)) result (annotated bytes.now) }
-    ensures shorter { IfOk result (λ r. length r.1.now < length bytes.now) }
+/// The name in the line `-- name: NAME :many` (sqlc documentation, query annotations).
+#[tactic(auto, unfolding(crate::specs::Query::noted_name))]
+fn noted_name(alloc: Global, bytes: &[u8]) -> Result<Name, NoForm>
+    ensures { Gives (λ r. r) result (noted_name bytes.now) }
 {
-    let (line, below) = first_line(bytes)?;
-    let rest = behind(line, b"-- name: ")?;
-    let name = before_end(rest, b" :many")?;
-    Ok((query_name(alloc, name)?, below))
+    let rest = behind(bytes, b"-- name: ")?;
+    query_name(alloc, before_end(rest, b" :many")?)
+}
+
+/// The name of the annotated query, and the tokens behind the annotation.
+#[tactic(auto, unfolding(crate::specs::Query::annotated))]
+fn annotated<'a>(alloc: Global, tokens: &'a [Token]) -> Result<(Name, &'a [Token]), NoForm>
+    ensures { Gives (λ r. (r.0, r.1.now)) result (annotated tokens.now) }
+{
+    match tokens.split_first() {
+        Some((token, later)) if token.kind == TokenKind::Note => Ok((
+            noted_name(alloc, token.bytes.as_slice())?,
+            later,
+        )),
+        _ => Err(NoForm::Other),
+    }
 }
 
 /// How a gap is printed.
@@ -118,15 +107,13 @@ fn printed(alloc: Global, tokens: &[Token]) -> Result<List<u8>, AllocError>
     Ok(text)
 }
 
-/// Reads the file of one query.
+/// Reads the tokens of a file with one query.
 #[tactic(auto, unfolding(crate::specs::Query::query_of))]
-pub fn read_query(alloc: Global, bytes: &[u8]) -> Result<Query, NoForm>
-    requires { length bytes.now ≤ LIMIT }
-    ensures { Gives (λ r. r) result (query_of bytes.now) }
+pub fn read_query(alloc: Global, tokens: &[Token]) -> Result<Query, NoForm>
+    ensures { Gives (λ r. r) result (query_of tokens.now) }
 {
-    let (name, below) = annotated(alloc, bytes)?;
-    let tokens = tokens(alloc, 1, 2, below)?;
-    let statement = one_statement(tokens.as_slice())?;
+    let (name, later) = annotated(alloc, tokens)?;
+    let statement = one_statement(later)?;
     let select = read_select(alloc, statement)?;
     let text = printed(alloc, statement)?;
     Ok(Query { name, select, text })

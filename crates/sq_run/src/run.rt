@@ -14,6 +14,7 @@ use sq_core::{
     fields_are_apart, fields_are_words, identifiers_are_words, select_of_columns_is_typed,
     typed_is_never_stuck,
 };
+use sq_lexer::printed_tokens_are_read_again;
 use sq_reader::reads_as_written;
 use std::alloc::Global;
 
@@ -76,5 +77,6 @@ pub fn sqlc<T: Tree, O: Out, S: Sink>(
     fields_are_words();
     fields_are_apart();
     reads_as_written();
+    printed_tokens_are_read_again();
     run(alloc, words.as_slice(), tree, out, screen)
 }

@@ -1,21 +1,19 @@
 ghost use Rattle.std.specs.Prelude.{◌≡◌, ◌<◌, ◌≤◌, ◌++◌, [], ◌∷◌, true, false, length, codes, string_bytes, IfOk};
-ghost use Rattle.std.specs.Str.{str_to_ascii_lowercase};
 ghost use Rattle.sq_run.specs.Statements;
-ghost use Rattle.sq_run.specs.Statements.{is, is_identifier, is_name, after, name_at, type_at, not_null_at, column_at, next, items_at, ended, has_twin, distinct, one_statement, create_table, select};
+ghost use Rattle.sq_run.specs.Statements.{is, after, name_at, type_at, not_null_at, column_at, next, items_at, ended, has_twin, distinct, one_statement, create_table, select};
+ghost use Rattle.sq_syntax.specs.declared.token.TokenKind.TheVariants.{Word, Punct};
 ghost use Rattle.sq_run.specs.Read.{Gives};
 ghost use Rattle.sq_run.specs.declared.statements.NoForm.TheVariants.{Memory};
 
-use crate::tokens::is_run_byte;
-use crate::words::{is_reserved, same_word};
+use crate::names::{name_text, same_word};
 use sq_base::{List, Name, PgType, Place, Scalar};
 use sq_catalog::Column;
-use sq_syntax::Token;
+use sq_syntax::{Token, TokenKind};
 use std::alloc::{AllocError, Global};
 
 /// A name as it is looked up, and where it stands.
 #[derive(Debug, Drop)]
 pub struct Named {
-    /// With its ASCII letters lowered.
     pub name: Name,
     pub place: Place,
 }
@@ -50,55 +48,28 @@ impl From<AllocError> for NoForm {
     }
 }
 
-/// Whether a token is this word in any letter case, or this mark.
-fn is(token: &Token, text: &str) -> bool
-    ensures { result ≡ is text.now token.now }
+#[tactic(auto, unfolding(crate::specs::Statements::same_kind))]
+fn same_kind(a: TokenKind, b: TokenKind) -> bool
+    ensures { result ≡ Statements.same_kind a b }
 {
-    same_word(token.bytes.as_slice(), text.as_bytes())
+    a == b
 }
 
-fn are_run_bytes(bytes: &[u8]) -> bool
-    ensures { result ≡ Statements.are_run_bytes bytes.now }
+/// Whether a token of this kind is this word in any letter case, or this mark.
+fn is(token: &Token, kind: TokenKind, text: &str) -> bool
+    ensures { result ≡ is kind text.now token.now }
 {
-    bytes.iter().all(|byte| is_run_byte(*byte))
-}
-
-/// Whether a text is an ASCII letter or an underscore, and then these and digits.
-pub fn is_identifier(bytes: &[u8]) -> bool
-    ensures { result ≡ is_identifier bytes.now }
-{
-    match bytes.first() {
-        Some(first) => !first.is_ascii_digit() && are_run_bytes(bytes),
-        None => false,
-    }
-}
-
-/// The text of ASCII bytes.
-pub fn ascii(alloc: Global, bytes: &[u8]) -> Result<String, AllocError>
-    requires { Statements.are_run_bytes bytes.now ≡ true }
-    ensures { IfOk result (λ text. string_bytes text ≡ bytes.now) }
-{
-    let mut text = String::new(alloc);
-    for byte in bytes {
-        text.push(*byte as char)?;
-    }
-    Ok(text)
-}
-
-fn is_name(bytes: &[u8]) -> bool
-    ensures { result ≡ is_name bytes.now }
-{
-    is_identifier(bytes) && bytes.len() <= 63 && !is_reserved(bytes)
+    same_kind(token.kind, kind) && same_word(token.bytes.as_slice(), text.as_bytes())
 }
 
 /// The tokens after this word or mark.
 #[tactic(auto, unfolding(crate::specs::Statements::after))]
-fn after<'a>(tokens: &'a [Token], text: &str) -> Result<&'a [Token], NoForm>
+fn after<'a>(tokens: &'a [Token], kind: TokenKind, text: &str) -> Result<&'a [Token], NoForm>
     ensures shorter { IfOk result (λ r. length r.now < length tokens.now) }
-    ensures part { Gives (λ r. r.now) result (after text.now tokens.now) }
+    ensures part { Gives (λ r. r.now) result (after kind text.now tokens.now) }
 {
     match tokens.split_first() {
-        Some((token, later)) if is(token, text) => Ok(later),
+        Some((token, later)) if is(token, kind, text) => Ok(later),
         _ => Err(NoForm::Other),
     }
 }
@@ -109,26 +80,14 @@ fn name_at<'a>(alloc: Global, tokens: &'a [Token]) -> Result<(Named, &'a [Token]
     ensures shorter { IfOk result (λ r. length r.1.now < length tokens.now) }
     ensures part { Gives (λ r. (r.0, r.1.now)) result (name_at tokens.now) }
 {
-    match tokens.split_first() {
-        Some((token, later)) if is_name(token.bytes.as_slice()) => Ok((
-            name_of(alloc, token)?,
-            later,
-        )),
-        _ => Err(NoForm::Other),
-    }
-}
-
-/// A name as it is looked up.
-fn name_of(alloc: Global, token: &Token) -> Result<Named, AllocError>
-    requires { is_name token.now.bytes ≡ true }
-    ensures { IfOk result (λ r. r ≡ Statements.name_of token.now) }
-{
-    let mut name = ascii(alloc, token.bytes.as_slice())?;
-    name.make_ascii_lowercase();
-    Ok(Named {
-        name: Name::from_string(name),
+    let Some((token, later)) = tokens.split_first() else {
+        return Err(NoForm::Other);
+    };
+    let named = Named {
+        name: name_text(alloc, token.kind, token.bytes.as_slice())?,
         place: token.place,
-    })
+    };
+    Ok((named, later))
 }
 
 /// The type at the head, and the tokens after it.
@@ -140,10 +99,10 @@ fn type_at(tokens: &[Token]) -> Result<(PgType, &[Token]), NoForm>
     let Some((token, later)) = tokens.split_first() else {
         return Err(NoForm::Other);
     };
-    if is(token, "integer") {
+    if is(token, TokenKind::Word, "integer") {
         return Ok((plain(Scalar::Integer), later));
     }
-    if is(token, "text") {
+    if is(token, TokenKind::Word, "text") {
         return Ok((plain(Scalar::Text), later));
     }
     Err(NoForm::Other)
@@ -165,8 +124,8 @@ fn not_null_at(tokens: &[Token]) -> Result<(bool, &[Token]), NoForm>
     ensures shorter { IfOk result (λ r. length r.1.now ≤ length tokens.now) }
     ensures part { Gives (λ r. (r.0, r.1.now)) result (not_null_at tokens.now) }
 {
-    match after(tokens, "not") {
-        Ok(later) => Ok((true, after(later, "null")?)),
+    match after(tokens, TokenKind::Word, "not") {
+        Ok(later) => Ok((true, after(later, TokenKind::Word, "null")?)),
         Err(NoForm::Other) => Ok((false, tokens)),
         Err(NoForm::Memory) => Err(NoForm::Memory),
     }
@@ -191,13 +150,17 @@ fn column_at<'a>(alloc: Global, tokens: &'a [Token]) -> Result<(Column, &'a [Tok
 
 /// Whether more items follow, and the tokens after the comma or the closing word or mark.
 #[tactic(auto, unfolding(crate::specs::Statements::next))]
-fn next<'a>(tokens: &'a [Token], close: &str) -> Result<(bool, &'a [Token]), NoForm>
+fn next<'a>(
+    tokens: &'a [Token],
+    kind: TokenKind,
+    close: &str,
+) -> Result<(bool, &'a [Token]), NoForm>
     ensures shorter { IfOk result (λ r. length r.1.now < length tokens.now) }
-    ensures part { Gives (λ r. (r.0, r.1.now)) result (next close.now tokens.now) }
+    ensures part { Gives (λ r. (r.0, r.1.now)) result (next kind close.now tokens.now) }
 {
-    match after(tokens, ",") {
+    match after(tokens, TokenKind::Punct, ",") {
         Ok(later) => Ok((true, later)),
-        Err(NoForm::Other) => Ok((false, after(tokens, close)?)),
+        Err(NoForm::Other) => Ok((false, after(tokens, kind, close)?)),
         Err(NoForm::Memory) => Err(NoForm::Memory),
     }
 }
@@ -216,14 +179,14 @@ fn ended(tokens: &[Token]) -> Result<(), NoForm>
 
 /// The columns up to the closing bracket, and the tokens after it.
 fn columns_at<'a>(alloc: Global, tokens: &'a [Token]) -> Result<(List<Column>, &'a [Token]), NoForm>
-    ensures { Gives (λ r. (r.0, r.1.now)) result (items_at column_at (codes ")") tokens.now) }
+    ensures { Gives (λ r. (r.0, r.1.now)) result (items_at column_at Punct (codes ")") tokens.now) }
 {
     let mut columns = List::new(alloc);
     let mut rest = tokens;
     loop {
         let (column, later) = column_at(alloc, rest)?;
         columns.push(column)?;
-        let (more, later) = next(later, ")")?;
+        let (more, later) = next(later, TokenKind::Punct, ")")?;
         rest = later;
         if !more {
             return Ok((columns, rest));
@@ -233,14 +196,14 @@ fn columns_at<'a>(alloc: Global, tokens: &'a [Token]) -> Result<(List<Column>, &
 
 /// The names up to the word FROM, and the tokens after it.
 fn outputs_at<'a>(alloc: Global, tokens: &'a [Token]) -> Result<(List<Named>, &'a [Token]), NoForm>
-    ensures { Gives (λ r. (r.0, r.1.now)) result (items_at name_at (codes "from") tokens.now) }
+    ensures { Gives (λ r. (r.0, r.1.now)) result (items_at name_at Word (codes "from") tokens.now) }
 {
     let mut outputs = List::new(alloc);
     let mut rest = tokens;
     loop {
         let (output, later) = name_at(alloc, rest)?;
         outputs.push(output)?;
-        let (more, later) = next(later, "from")?;
+        let (more, later) = next(later, TokenKind::Word, "from")?;
         rest = later;
         if !more {
             return Ok((outputs, rest));
@@ -285,7 +248,7 @@ pub fn one_statement(tokens: &[Token]) -> Result<&[Token], NoForm>
     ensures { Gives (λ r. r.now) result (one_statement tokens.now) }
 {
     let (statement, end) = tokens.split_at(tokens.len().saturating_sub(1));
-    after(end, ";")?;
+    after(end, TokenKind::Punct, ";")?;
     Ok(statement)
 }
 
@@ -294,10 +257,10 @@ pub fn one_statement(tokens: &[Token]) -> Result<&[Token], NoForm>
 pub fn read_create_table(alloc: Global, tokens: &[Token]) -> Result<CreateTable, NoForm>
     ensures { Gives (λ r. r) result (create_table tokens.now) }
 {
-    let tokens = after(tokens, "create")?;
-    let tokens = after(tokens, "table")?;
+    let tokens = after(tokens, TokenKind::Word, "create")?;
+    let tokens = after(tokens, TokenKind::Word, "table")?;
     let (named, tokens) = name_at(alloc, tokens)?;
-    let tokens = after(tokens, "(")?;
+    let tokens = after(tokens, TokenKind::Punct, "(")?;
     let (columns, tokens) = columns_at(alloc, tokens)?;
     ended(tokens)?;
     let columns = distinct(columns)?;
@@ -312,7 +275,7 @@ pub fn read_create_table(alloc: Global, tokens: &[Token]) -> Result<CreateTable,
 pub fn read_select(alloc: Global, tokens: &[Token]) -> Result<Select, NoForm>
     ensures { Gives (λ r. r) result (select tokens.now) }
 {
-    let tokens = after(tokens, "select")?;
+    let tokens = after(tokens, TokenKind::Word, "select")?;
     let (outputs, tokens) = outputs_at(alloc, tokens)?;
     let (table, tokens) = name_at(alloc, tokens)?;
     ended(tokens)?;

@@ -176,22 +176,45 @@ fn generate(
     run_over(alloc, &["generate"], files, failing)
 }
 
+/// The first project again, with comments, quoted names and other blanks.
+const SPACED_SCHEMA: &str =
+    "\u{FEFF}-- A table.\r\nCREATE TABLE \"t\"\t(id integer NOT/**/NULL, \"name\" text);\n";
+
+const SPACED_QUERY: &str =
+    "-- All.\n-- name: ListT :many\n-- In any order:\nSELECT id,\t/* and */ name /* of */FROM\u{C}t\n; -- done\n";
+
 #[test]
 fn the_first_project_is_written(rt: HostRuntime) -> Result<(), Fail> {
-    let left = generate(rt.alloc(), SCHEMA, QUERY, NONE)?;
-    assert_eq!(rt; left.status, Status::Done);
-    assert_eq!(rt; left.status.code(), 0);
-    assert!(rt; left.screen.text().is_empty());
     let wanted = [
         ("db/db.go", DB),
         ("db/models.go", MODELS),
         ("db/q.sql.go", QUERIES),
     ];
-    assert_eq!(rt; left.out.files().len(), wanted.len());
-    for (file, (path, bytes)) in left.out.files().iter().zip(&wanted) {
-        assert_eq!(rt; file.path.as_str(), *path);
-        assert_eq!(rt; file.bytes.as_slice(), bytes.as_bytes(), "in {path}");
+    for (schema, query) in &[(SCHEMA, QUERY), (SPACED_SCHEMA, SPACED_QUERY)] {
+        let left = generate(rt.alloc(), schema, query, NONE)?;
+        assert_eq!(rt; left.status, Status::Done);
+        assert_eq!(rt; left.status.code(), 0);
+        assert!(rt; left.screen.text().is_empty());
+        assert_eq!(rt; left.out.files().len(), wanted.len());
+        for (file, (path, bytes)) in left.out.files().iter().zip(&wanted) {
+            assert_eq!(rt; file.path.as_str(), *path);
+            assert_eq!(rt; file.bytes.as_slice(), bytes.as_bytes(), "in {path}");
+        }
     }
+    Ok(())
+}
+
+#[test]
+fn a_source_is_utf8(rt: HostRuntime) -> Result<(), Fail> {
+    let alloc = rt.alloc();
+    let mut files = List::new(alloc);
+    files.push(file(alloc, "sqlc.json", CONFIGURATION)?)?;
+    files.push(File {
+        path: Name::new(alloc, "schema.sql")?,
+        bytes: List::from_slice(alloc, b"'abc\xFF")?,
+    })?;
+    let left = run_over(alloc, &["generate"], files, NONE)?;
+    assert!(rt; ends_as(&left, "schema.sql:1:5: [3] NotUtf8\n", 1, 0));
     Ok(())
 }
 
@@ -202,7 +225,7 @@ const QUERY_NOT_YET: &str = "q.sql:1:1: [99] NotYet\n";
 const CLASH: &str = "sqlc.json: [99] NotYet\n";
 
 /// Schemas, and the line that each is refused with; none where it is accepted.
-const SCHEMAS: [(&str, &str); 23] = [
+const SCHEMAS: [(&str, &str); 35] = [
     ("create Table T (ID Integer not Null, Name TEXT) ;", ""),
     (
         "\n\nCREATE TABLE t\n(\n  id integer NOT NULL,\n  name text\n)\n;\n",
@@ -229,25 +252,47 @@ const SCHEMAS: [(&str, &str); 23] = [
         "CREATE TABLE t (id integer, name text, aaaaaaaaaaaaaaaaaaaaaaaaaaaaaaaaaaaaaaaaaaaaaaaaaaaaaaaaaaaaaaa text);",
         "",
     ),
+    ("CREATE TABLE t (id integer, name text); -- a table", ""),
+    ("CREATE TABLE t\t(id integer, name text);", ""),
     (
-        "CREATE TABLE t (id integer, name text); -- a table",
+        "\\restrict x\n/* the /* only */ table */ CREATE TABLE t -- t\n(id integer, name text);",
+        "",
+    ),
+    (
+        "-- name: Schema :exec\nCREATE TABLE t (id integer, name text);",
+        "",
+    ),
+    ("\u{FEFF}CREATE TABLE t (id integer, name text);", ""),
+    (
+        "CREATE TABLE t (id integer, name text);\u{FEFF}",
         SCHEMA_NOT_YET,
     ),
-    ("CREATE TABLE t\t(id integer, name text);", SCHEMA_NOT_YET),
+    (
+        "CREATE TABLE t (id integer, name text);\0",
+        "schema.sql:1:40: [2] BadByte\n",
+    ),
+    (
+        "CREATE TABLE t (id integer,\n  name 'text);",
+        "schema.sql:2:8: [1] Unterminated\n",
+    ),
+    (
+        "/* /* */\nCREATE TABLE t (id integer, name text);",
+        "schema.sql:1:1: [1] Unterminated\n",
+    ),
     ("CREATE TABLE t (id integer, name text)", SCHEMA_NOT_YET),
     ("CREATE TABLE t (id integer, name text);;", SCHEMA_NOT_YET),
     (
         "CREATE TABLE t (id integer, name text); CREATE TABLE u (id integer);",
         SCHEMA_NOT_YET,
     ),
-    (
-        "CREATE TABLE t (id integer, name text);\r\n",
-        SCHEMA_NOT_YET,
-    ),
+    ("CREATE TABLE t (id integer,\r\n name text);\r\n", ""),
     ("", SCHEMA_NOT_YET),
     ("CREATE TABLE t ();", SCHEMA_NOT_YET),
     ("CREATE TABLE t (id integer, name text,);", SCHEMA_NOT_YET),
-    ("CREATE TABLE 1t (id integer, name text);", SCHEMA_NOT_YET),
+    (
+        "CREATE TABLE 1t (id integer, name text);",
+        "schema.sql:1:14: [2] BadByte\n",
+    ),
     ("CREATE TABLE t (id integer, name varchar);", SCHEMA_NOT_YET),
     (
         "CREATE TABLE t (id integer NOT, name text);",
@@ -257,8 +302,25 @@ const SCHEMAS: [(&str, &str); 23] = [
         "CREATE TABLE t (id integer NULL, name text);",
         SCHEMA_NOT_YET,
     ),
+    ("CREATE TABLE \"t\" (\"id\"integer, name text);", ""),
     (
-        "CREATE TABLE \"t\" (id integer, name text);",
+        "CREATE TABLE \"T\" (id integer, name text);",
+        "q.sql:2:22: [10] UnknownTable t\n",
+    ),
+    (
+        "CREATE TABLE t (\"ID\" integer, name text);",
+        "q.sql:2:8: [11] UnknownColumn id\n",
+    ),
+    (
+        "CREATE TABLE t (id integer, name text, \"aaaaaaaaaaaaaaaaaaaaaaaaaaaaaaaaaaaaaaaaaaaaaaaaaaaaaaaaaaaaaaaa\" text);",
+        SCHEMA_NOT_YET,
+    ),
+    (
+        "CREATE TABLE t (id \"integer\", name text);",
+        SCHEMA_NOT_YET,
+    ),
+    (
+        "CREATE TABLE t (id integer, name text, na$me text);",
         SCHEMA_NOT_YET,
     ),
     (
@@ -268,11 +330,40 @@ const SCHEMAS: [(&str, &str); 23] = [
 ];
 
 /// Query files over the schema `t`, and the line that each is refused with; none where it is accepted.
-const QUERY_FILES: [(&str, &str); 26] = [
+const QUERY_FILES: [(&str, &str); 34] = [
     ("-- name: ListT :many\nselect ID,Name From T ;", ""),
     ("-- name: ListT :many\nSELECT id\nFROM t;", ""),
+    (
+        "-- All of them.\n-- name: ListT :many\n-- by number\nSELECT /* one */ id,\tname\r\nFROM t; -- done",
+        "",
+    ),
+    ("-- name: ListT :many\nSELECT \"id\" FROM \"t\";", ""),
+    (
+        "-- name: ListT :many\n/* name: ListU :many */ SELECT id FROM t;",
+        "",
+    ),
     ("", QUERY_NOT_YET),
     ("SELECT id FROM t;", QUERY_NOT_YET),
+    (
+        "-- name: ListT :many\nSELECT id\n-- name: ListU :many\nFROM t;",
+        QUERY_NOT_YET,
+    ),
+    (
+        "-- name: ListT :many\nSELECT \"Id\" FROM t;",
+        "q.sql:2:8: [11] UnknownColumn Id\n",
+    ),
+    (
+        "-- name: ListT :many\nSELECT id FROM t WHERE name = 'x;",
+        "q.sql:2:31: [1] Unterminated\n",
+    ),
+    (
+        "-- name: ListT :many\nSELECT 1x FROM t;",
+        "q.sql:2:8: [2] BadByte\n",
+    ),
+    (
+        "-- name: ListT :many\nSELECT x FROM u; \"",
+        "q.sql:2:18: [1] Unterminated\n",
+    ),
     ("-- name: ListT :one\nSELECT id FROM t;", QUERY_NOT_YET),
     ("--  name: ListT :many\nSELECT id FROM t;", QUERY_NOT_YET),
     ("-- name: ListT :many \nSELECT id FROM t;", QUERY_NOT_YET),
@@ -325,7 +416,7 @@ const QUERY_FILES: [(&str, &str); 26] = [
 ];
 
 /// Schemas with a query, and the line that each is refused with; none where it is accepted.
-const PROJECTS: [(&str, &str, &str); 4] = [
+const PROJECTS: [(&str, &str, &str); 7] = [
     (
         "CREATE TABLE new (id integer);",
         "-- name: ListNew :many\nSELECT id FROM new;",
@@ -346,6 +437,17 @@ const PROJECTS: [(&str, &str, &str); 4] = [
         "-- name: ListT :many\nSELECT a_b, a__b FROM t;",
         "",
     ),
+    (
+        "CREATE TABLE \"order\" (\"select\" integer, \"a \"\"b\" text);",
+        "-- name: ListOrder :many\nSELECT \"a \"\"b\", \"select\" FROM \"order\";",
+        "",
+    ),
+    (
+        "CREATE TABLE t (\"a \"\"b\" text);",
+        "-- name: ListT :many\nSELECT \"a b\" FROM t;",
+        "q.sql:2:8: [11] UnknownColumn a b\n",
+    ),
+    ("'", "\"", "schema.sql:1:1: [1] Unterminated\n"),
 ];
 
 /// Judges a schema and a query, and looks at the answer.

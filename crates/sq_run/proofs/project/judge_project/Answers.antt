@@ -2,7 +2,6 @@ use Rattle.std.proofs.lemmas.Result.{err_from_is_err_and}
 use Rattle.std.proofs.Common.{ℕ, List, Ok, Err, subst}
 use Rattle.sq_run.specs.Asked.{Judges}
 use Rattle.sq_run.specs.Project.{catalogue_of, project_of}
-use Rattle.sq_run.specs.Query.{query_of}
 use Rattle.sq_run.proofs.Steps.{followed, stopped, judged_follows}
 use Rattle.sq_run.proofs.project.judge_project.Goals as goal
 
@@ -30,4 +29,4 @@ returns g c =
     followed _ _ _ _ _ tt _ c.in_ok-read_configuration.ensures (followed _ _ _ _ _ _ _ c.in_ok-schema.ensures.follows
     (followed _ _ _ _ _ _ _ (judged_follows (catalogue_of c.in_ok-schema.schema) _ (Ok c.in_ok-catalogue.catalogue) (rw (← c.as_slice.ensures) c.in_ok-catalogue.ensures))
     (followed _ _ _ _ _ _ _ c.in_ok-query.ensures.follows
-    (judged_follows (project_of c.in_ok-catalogue.catalogue (query_of c.in_ok-query.query)) _ c.judge_queries.result (rw (← c.as_slice-2.ensures) c.judge_queries.ensures)))))
+    (judged_follows (project_of c.in_ok-catalogue.catalogue c.in_ok-query.query) _ c.judge_queries.result (rw (← c.as_slice-2.ensures) c.judge_queries.ensures)))))

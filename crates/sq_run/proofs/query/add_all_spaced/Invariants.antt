@@ -1,5 +1,5 @@
 use Rattle.std.proofs.Common.{◌≡◌, ◌++◌, drop}
-use Rattle.sq_run.specs.Query.{spaced}
+use Rattle.sq_lexer.specs.Printed.{spaced}
 use Rattle.sq_run.proofs.query.add_all_spaced.Given as goal
 
 abbrev pub invariant-loop-token : goal.invariant-loop-token

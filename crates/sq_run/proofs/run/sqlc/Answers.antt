@@ -36,6 +36,7 @@ returns-clause-headline g c =
       field_words = c.fields_are_words.ensures.fields;
       column_words = c.fields_are_words.ensures.columns;
       fields_apart = c.fields_are_apart.ensures.fields;
+      again = c.printed_tokens_are_read_again.ensures.list;
       columns_apart = c.fields_are_apart.ensures.columns;
     } in
     rw (← c.as_slice.ensures.value) (headlined laws _ _ _ _ (caused c.run.ensures) (kept c.run.ensures))

@@ -1,6 +1,6 @@
 use Rattle.std.proofs.Common.{◌≡◌, drop, map}
-use Rattle.sq_run.specs.Statements.{is_among}
-use Rattle.sq_run.proofs.words.is_among.Given as goal
+use Rattle.sq_run.specs.Names.{is_among}
+use Rattle.sq_run.proofs.names.is_among.Given as goal
 
 abbrev pub invariant-loop-other : goal.invariant-loop-other
 invariant-loop-other l = is_among (map (λ w. w.now) (drop l.other-index l.words)) l.word ≡ is_among (map (λ w. w.now) l.words) l.word

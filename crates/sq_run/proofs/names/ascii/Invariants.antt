@@ -1,6 +1,6 @@
 use Rattle.std.proofs.Common.{◌≡◌, take}
 use Rattle.std.specs.Prelude.{string_bytes}
-use Rattle.sq_run.proofs.statements.ascii.Given as goal
+use Rattle.sq_run.proofs.names.ascii.Given as goal
 
 abbrev pub invariant-loop-byte : goal.invariant-loop-byte
 invariant-loop-byte l = string_bytes l.text ≡ take l.byte-index l.bytes

@@ -53,11 +53,11 @@ IsAscii-with_letter [] h = IsAscii-cons 88 [] (omega arith) h
 IsAscii-with_letter (byte ∷ bytes) h = either IsAscii (is_ascii_digit byte) (88 ∷ byte ∷ bytes) (byte ∷ bytes) (λ test. IsAscii-cons 88 (byte ∷ bytes) (omega arith) h) (λ test. h)
 
 -- so an identifier is a text
-is_utf8_pascal : (name : Text) → IsUtf8 (pascal name)
+pub is_utf8_pascal : (name : Text) → IsUtf8 (pascal name)
 unfolding pascal
 is_utf8_pascal name = IsUtf8-from_ascii _ (IsAscii-with_letter _ (IsAscii-joined (words name) (AreAscii-words_after name [] IsAscii-nil)))
 
 -- what is made of the bytes of an identifier, if they are a text, is the identifier
-pub identifier_text : {E : Type 0} (made : Result Text E) (bytes name : Text) → bytes ≡ pascal name → IfOk made (λ text. IsUtf8 bytes → text ≡ bytes) → IfOk made (λ text. text ≡ pascal name)
-identifier_text (Ok text) bytes name e read = read (subst IsUtf8 (sym e) (is_utf8_pascal name)) ∙ e
-identifier_text (Err fault) bytes name e read = tt
+pub identifier_text : {E : Type 0} (made : Result Text E) (bytes identifier : Text) → bytes ≡ identifier → IsUtf8 identifier → IfOk made (λ text. IsUtf8 bytes → text ≡ bytes) → IfOk made (λ text. text ≡ identifier)
+identifier_text (Ok text) bytes identifier e is_text read = read (subst IsUtf8 (sym e) is_text) ∙ e
+identifier_text (Err fault) bytes identifier e is_text read = tt

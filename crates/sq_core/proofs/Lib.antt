@@ -4,6 +4,7 @@ mod BindLemmas
 mod FieldLemmas
 mod FormLemmas
 mod FrameLemmas
+mod PackageLemmas
 mod Soundness
 mod StoredLemmas
 mod TypeLemmas

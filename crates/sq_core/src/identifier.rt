@@ -2,7 +2,7 @@
 
 ghost use Rattle.std.specs.Prelude.{◌≡◌, ◌++◌, ◌∷◌, ◌<◌, ◌≤◌, ◌+◌, ◌^◌, length, IfOk, OnOk, map, flat_map, nat_eq, bytes_eq, count_by, codes, IsUtf8};
 ghost use Rattle.std.specs.List.{list_any, ends_with};
-ghost use Rattle.sq_core.specs.Identifiers.{constant_name, ended, ends_with_any, freed, in_schema, is_taken, lowered, model_identifier, numbered, pascal, pascal_word, raised, singular, with_letter, with_number, without_last, words};
+ghost use Rattle.sq_core.specs.Identifiers.{constant_name, ended, ends_with_any, freed, in_schema, is_keyword, is_taken, keyword_freed, last_after, last_part, lowered, model_identifier, numbered, package_name, pascal, pascal_word, raised, singular, with_letter, with_number, without_last, word_byte, words};
 
 use sq_base::{List, Name};
 use std::alloc::{AllocError, Global};
@@ -268,11 +268,18 @@ fn is_one_of(name: &[u8], names: &[&str]) -> bool
     false
 }
 
+// Whether a name is a keyword of Go.
+fn is_keyword(name: &[u8]) -> bool
+    ensures { result ≡ is_keyword name.now }
+{
+    is_one_of(name, &GO_KEYWORDS)
+}
+
 // Whether a parameter or a constant may not have this name.
 fn is_taken(name: &[u8]) -> bool
     ensures { result ≡ is_taken name.now }
 {
-    is_one_of(name, &GO_KEYWORDS) || is_one_of(name, &NAMES_IN_USE)
+    is_keyword(name) || is_one_of(name, &NAMES_IN_USE)
 }
 
 // A name that is taken gets a last `_`.
@@ -293,4 +300,85 @@ pub fn constant_name(alloc: Global, query: &Name) -> Result<List<u8>, AllocError
     let mut name = List::new(alloc);
     push_lowered(&mut name, query.as_bytes())?;
     freed(name)
+}
+
+// The part that has ended, or the one before it where this one has no byte.
+fn last_of(before: List<u8>, part: List<u8>) -> List<u8>
+    ensures { result ≡ last_after before (ended part) }
+{
+    if part.as_slice().is_empty() {
+        before
+    } else {
+        part
+    }
+}
+
+// The last part of a text between slashes that isn't empty.
+fn last_part(alloc: Global, text: &[u8]) -> Result<List<u8>, AllocError>
+    ensures { IfOk result (λ part. part ≡ last_part text.now) }
+{
+    let mut last = List::new(alloc);
+    let mut part = List::new(alloc);
+    for byte in text {
+        if *byte == b'/' {
+            last = last_of(last, part);
+            part = List::new(alloc);
+        } else {
+            part.push(*byte)?;
+        }
+    }
+    Ok(last_of(last, part))
+}
+
+// The byte, where it may stand in a word, else `_`.
+fn word_byte(byte: u8) -> u8
+    ensures { result ≡ word_byte byte }
+{
+    if byte.is_ascii_alphanumeric() || byte == b'_' {
+        byte
+    } else {
+        b'_'
+    }
+}
+
+// The text with `_` for each byte that may not stand in a word.
+fn word_bytes(alloc: Global, text: &[u8]) -> Result<List<u8>, AllocError>
+    ensures { IfOk result (λ word. word ≡ map word_byte text.now) }
+{
+    let mut word = List::new(alloc);
+    for byte in text {
+        word.push(word_byte(*byte))?;
+    }
+    Ok(word)
+}
+
+// A name that is a keyword gets a last `_`.
+fn keyword_freed(mut name: List<u8>) -> Result<List<u8>, AllocError>
+    ensures { IfOk result (λ free. free ≡ keyword_freed name) }
+{
+    if is_keyword(name.as_slice()) {
+        name.push(b'_')?;
+    }
+    Ok(name)
+}
+
+// The bytes of the name of a package.
+#[tactic(auto, unfolding(crate::specs::Identifiers::package_name))]
+fn package_bytes(alloc: Global, out: &[u8]) -> Result<List<u8>, AllocError>
+    ensures { IfOk result (λ name. name ≡ package_name out.now) }
+{
+    let part = last_part(alloc, out)?;
+    let word = word_bytes(alloc, part.as_slice())?;
+    let begun = with_letter(alloc, b'_', word)?;
+    keyword_freed(begun)
+}
+
+/// The name of the Go package whose files stand in the folder `out`, which is taken as the
+/// configuration has it: `./gen/my-db/` gives `my_db`, `1a` gives `_1a`, `go` gives `go_`, and `.`
+/// gives `_`.
+pub fn package_name(alloc: Global, out: &str) -> Result<Name, AllocError>
+    ensures { IfOk result (λ name. name ≡ package_name out.now) }
+{
+    let name = package_bytes(alloc, out.as_bytes())?;
+    name_of(alloc, name)
 }

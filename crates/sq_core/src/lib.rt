@@ -14,7 +14,7 @@ mod tests;
 
 pub use declaration::{ModelDecl, QuerySig};
 pub use form::{go_form, is_weak_in_go};
-pub use identifier::{constant_name, model_identifier, numbered, pascal};
+pub use identifier::{constant_name, model_identifier, numbered, package_name, pascal};
 pub use laws::{
     empty_tables_fit, null_is_admitted_where_nullable_or_weak, one_column_gives_what_is_stored,
     select_of_columns_is_typed, typed_is_never_stuck, what_fits_is_bound, what_fits_is_printed,

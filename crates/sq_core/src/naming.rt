@@ -5,19 +5,20 @@ ghost use Rattle.std.specs.Prelude.{◌≡◌, ◌<◌, ◌^◌, ◌++◌, List,
 ghost use Rattle.std.specs.List.{list_all};
 ghost use Rattle.sq_core.specs.declared.signature.Output.{Output};
 ghost use Rattle.sq_core.specs.declared.signature.ShownField.{ShownField};
-ghost use Rattle.sq_core.specs.Identifiers.{constant_name, model_identifier, pascal};
+ghost use Rattle.sq_core.specs.Identifiers.{constant_name, model_identifier, package_name, pascal};
 ghost use Rattle.sq_core.specs.Lines.{Text};
 ghost use Rattle.sq_core.specs.Names.{has_equal};
 ghost use Rattle.sq_core.specs.Signature.{fields, shown_columns};
 ghost use Rattle.sq_core.specs.Words.{is_word};
 
-/// Identifiers are words: those of fields and models for every name of SQL, and those of a query's
-/// constant and rows where the query's name is a word.
+/// Identifiers are words: those of fields and models for every name of SQL, those of a query's
+/// constant and rows where the query's name is a word, and that of a package for every folder.
 pub fn identifiers_are_words()
     ensures fields { (name : Text) → is_word (pascal name) ≡ true }
     ensures models { (schema name : Text) → is_word (model_identifier schema name) ≡ true }
     ensures constants { (query : Text) → is_word query ≡ true → is_word (constant_name query) ≡ true }
     ensures rows { (query : Text) → is_word query ≡ true → is_word (query ++ codes "Row") ≡ true }
+    ensures packages { (out : Text) → is_word (package_name out) ≡ true }
 {}
 
 /// The fields of a struct and the columns of a query are named by words.

@@ -2,6 +2,7 @@ ghost use Rattle.std.specs.Prelude.{IsTrue};
 ghost use Rattle.sq_core.specs.Forms.{is_printed};
 
 use crate::form::{go_form, is_weak_in_go};
+use crate::identifier::package_name;
 use crate::laws::{
     empty_tables_fit, null_is_admitted_where_nullable_or_weak, one_column_gives_what_is_stored,
     select_of_columns_is_typed, typed_is_never_stuck, what_fits_is_bound, what_fits_is_printed,
@@ -72,6 +73,40 @@ fn an_array_has_one_form_and_is_weak(rt: HostRuntime) -> Result<(), AllocError> 
     assert_eq!(rt; go_form(alloc, of, true)?.as_str(), "[]int32");
     assert!(rt; is_weak_in_go(of));
     Ok(())
+}
+
+// Compares the package of a folder.
+fn packaged(rt: &impl Abort, alloc: Global, out: &str, package: &str) -> Result<(), AllocError> {
+    assert_eq!(rt; package_name(alloc, out)?.as_str(), package);
+    Ok(())
+}
+
+#[test]
+fn a_package_is_named_after_the_last_part_of_its_folder(rt: HostRuntime) -> Result<(), AllocError> {
+    let alloc = rt.alloc();
+    packaged(&rt, alloc, "db", "db")?;
+    packaged(&rt, alloc, "a/b/", "b")?;
+    packaged(&rt, alloc, "./gen/my-db/", "my_db")?;
+    packaged(&rt, alloc, "/srv//store//", "store")?;
+    packaged(&rt, alloc, "", "_")?;
+    packaged(&rt, alloc, "/", "_")?;
+    packaged(&rt, alloc, ".", "_")?;
+    packaged(&rt, alloc, "db/.", "_")?;
+    packaged(&rt, alloc, "my-db", "my_db")?;
+    packaged(&rt, alloc, "1a", "_1a")?;
+    packaged(&rt, alloc, "v2.0", "v2_0")?;
+    packaged(&rt, alloc, "é", "__")
+}
+
+#[test]
+fn a_package_is_no_keyword_of_go(rt: HostRuntime) -> Result<(), AllocError> {
+    let alloc = rt.alloc();
+    packaged(&rt, alloc, "go", "go_")?;
+    packaged(&rt, alloc, "internal/type/", "type_")?;
+    packaged(&rt, alloc, "Go", "Go")?;
+    packaged(&rt, alloc, "go.", "go_")?;
+    packaged(&rt, alloc, "1go", "_1go")?;
+    packaged(&rt, alloc, "string", "string")
 }
 
 #[test]

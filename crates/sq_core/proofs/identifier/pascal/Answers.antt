@@ -1,5 +1,5 @@
-use Rattle.sq_core.proofs.Ascii.{identifier_text}
+use Rattle.sq_core.proofs.Ascii.{identifier_text, is_utf8_pascal}
 use Rattle.sq_core.proofs.identifier.pascal.Goals as goal
 
 pub returns : goal.returns
-returns c = identifier_text c.name_of.result _ c.args.name.now c.in_ok-identifier.ensures c.name_of.ensures
+returns c = identifier_text c.name_of.result _ _ c.in_ok-identifier.ensures (is_utf8_pascal c.args.name.now) c.name_of.ensures

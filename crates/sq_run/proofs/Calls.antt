@@ -18,7 +18,7 @@ use Rattle.sq_run.specs.Asked.{Asked, Ends, Follows}
 use Rattle.sq_run.specs.Each.{Each, StopsAt}
 use Rattle.sq_run.specs.Deliver.{Put, PutFails, PutsAll, Print, PrintFails, PrintsAll, Shows, Concludes, files_of}
 use Rattle.sq_run.specs.Printed.{WithinWrites}
-use Rattle.sq_run.specs.Project.{is_generate, generate}
+use Rattle.sq_run.specs.Project.{is_command, asked_by}
 use Rattle.sq_run.specs.Run.{Outside, IsRun, AtMost, WithinCalls, paths_asked, files_asked}
 use Rattle.sq_run.proofs.Causes.{by_words, asked_is, nothing_put}
 use Rattle.sq_run.proofs.Steps.{if_told, calls_joined, calls_none}
@@ -77,7 +77,7 @@ none_made : (most : ℕ) (before now : Option ℕ) → now ≡ before → AtMost
 none_made most before now same = (0, omega arith, same ∙ sym (calls_none before))
 
 module _ (words : List (List ℕ)) (before after : Outside) where
-  puts_asked : (ending : Result (List File) Halt) (put : Result (Unit {0}) PutFault) → is_generate words ≡ true → Follows generate before.tree after.tree ending → PutsAll (files_of ending) before.out after.out put
+  puts_asked : (ending : Result (List File) Halt) (put : Result (Unit {0}) PutFault) → is_command words ≡ true → Follows (asked_by words) before.tree after.tree ending → PutsAll (files_of ending) before.out after.out put
       → IfSome before.tree.files (λ held. AtMost (length (files_asked words held)) before.out.calls after.out.calls)
   puts_asked (Ok files) put command follows puts =
       IfSome_then before.tree.files follows.asked (λ held answered. subst (λ (fs : List File). AtMost (length fs) before.out.calls after.out.calls) (asked_is words held files command answered.ends.0) (puts_within files put before.out after.out puts))
@@ -88,7 +88,7 @@ pub within : {words : List (List ℕ)} {before after : Outside} {status : Status
 within {words = words} {before = before} {after = after} r = by_words (WithinCalls words before after) r
     (λ command follows. record {
       tree = IfSome_then before.tree.files follows.asked (λ held answered.
-          rw command (length answered.made, made_within (generate held) answered.made r.ending answered.ends, answered.calls));
+          rw command (length answered.made, made_within (asked_by words held) answered.made r.ending answered.ends, answered.calls));
       out = puts_asked words before after r.ending r.put command follows r.putting;
     })
     (λ other same usage.

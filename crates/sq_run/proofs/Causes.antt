@@ -26,7 +26,7 @@ use Rattle.sq_run.specs.Each.{Each, StopsAt}
 use Rattle.sq_run.specs.Status.{unless_screen_failed}
 use Rattle.sq_run.specs.Lines.{finding_line, usage_lines}
 use Rattle.sq_run.specs.Deliver.{Put, PutFails, Print, PutsAll, PrintsAll, Concludes, files_of, unwritten_line, report, put_failed, report_of}
-use Rattle.sq_run.specs.Project.{is_generate, generate, Judging}
+use Rattle.sq_run.specs.Project.{is_command, asked_by, Judging}
 use Rattle.sq_run.specs.Run.{Outside, Tells, IsRun, Cause, HasFiles, Says, WriteFailed, files_asked, Unless, Unless.as_wanted, Unless.no_memory, Unless.screen_failed, Owes, IsOwed}
 
 -- steps that keep a count keep it together
@@ -106,20 +106,20 @@ by_status P (replaced is rose some) here failed none = subst P (sym is) (failed 
 by_status P (ended is) here failed none = subst P (sym is) none
 
 -- the files of an accepted run are those asked
-pub asked_is : (words : List (List ℕ)) (held files : List File) → is_generate words ≡ true → (generate held).answer ≡ Some (Ok files) → files ≡ files_asked words held
+pub asked_is : (words : List (List ℕ)) (held files : List File) → is_command words ≡ true → (asked_by words held).answer ≡ Some (Ok files) → files ≡ files_asked words held
 asked_is words held files command is = rw (command, is) refl
 
 -- what a command says where its project is refused
-refused_says : (words : List (List ℕ)) (held : List File) (findings : List Finding) → is_generate words ≡ true → (generate held).answer ≡ Some (Err findings) → Says (is_generate words) held Refused (map finding_line findings)
+refused_says : (words : List (List ℕ)) (held : List File) (findings : List Finding) → is_command words ≡ true → (asked_by words held).answer ≡ Some (Err findings) → Says words (is_command words) held Refused (map finding_line findings)
 refused_says words held findings command is = rw (command, is) (refl, refl)
 
 -- what other words say
-pub usage_says : (words : List (List ℕ)) (held : List File) → is_generate words ≡ false → Says (is_generate words) held Usage usage_lines
+pub usage_says : (words : List (List ℕ)) (held : List File) → is_command words ≡ false → Says words (is_command words) held Usage usage_lines
 usage_says words held none = rw none (refl, refl)
 
 module _ (words : List (List ℕ)) (before after : Outside) (status : Status) where
   -- the cause of an answer to a command
-  caused_by : (ending : Result (List File) Halt) (put : Result (Unit {0}) PutFault) → is_generate words ≡ true → Follows generate before.tree after.tree ending → PutsAll (files_of ending) before.out after.out put
+  caused_by : (ending : Result (List File) Halt) (put : Result (Unit {0}) PutFault) → is_command words ≡ true → Follows (asked_by words) before.tree after.tree ending → PutsAll (files_of ending) before.out after.out put
       → Reached (intended ending put) (lines_of (report_of ending put)) before.screen.faults after.screen.faults status → Cause words before after status
   caused_by (Ok files) (Ok done) command follows puts end =
       by_status (Cause words before after) end
@@ -156,7 +156,7 @@ module _ (words : List (List ℕ)) (before after : Outside) (status : Status) wh
   caused_by (Err HaltMemory) put command follows puts end = by_status (Cause words before after) end (λ same. tt) (λ failed some. tt) tt
 
   -- and to other words
-  usage_by : (ending : Result (List File) Halt) (put : Result (Unit {0}) PutFault) → is_generate words ≡ false → ending ≡ Err IsUsage
+  usage_by : (ending : Result (List File) Halt) (put : Result (Unit {0}) PutFault) → is_command words ≡ false → ending ≡ Err IsUsage
       → Reached (intended ending put) (lines_of (report_of ending put)) before.screen.faults after.screen.faults status → Cause words before after status
   usage_by ending put none is end =
       by_status (Cause words before after) (subst (λ (e : Result (List File) Halt). Reached (intended e put) (lines_of (report_of e put)) before.screen.faults after.screen.faults status) is end) (λ same. none)
@@ -164,11 +164,11 @@ module _ (words : List (List ℕ)) (before after : Outside) (status : Status) wh
 
 -- by whether the words are a command
 pub by_words : {words : List (List ℕ)} {before after : Outside} {status : Status} (Q : Type 0) (r : IsRun words before after status)
-    → (is_generate words ≡ true → Follows generate before.tree after.tree r.ending → Q) → (is_generate words ≡ false → after.tree ≡ before.tree → r.ending ≡ Err IsUsage → Q) → Q
+    → (is_command words ≡ true → Follows (asked_by words) before.tree after.tree r.ending → Q) → (is_command words ≡ false → after.tree ≡ before.tree → r.ending ≡ Err IsUsage → Q) → Q
 by_words {words = words} {before = before} {after = after} Q r commanded other =
-    elim (cases_Bool (is_generate words)) [
-      | inl is_command ↦ commanded is_command (subst (λ (b : Bool). Judging b before.tree after.tree r.ending) is_command r.judging)
-      | inr is_other ↦ let judged = subst (λ (b : Bool). Judging b before.tree after.tree r.ending) is_other r.judging in other is_other judged.0 judged.1
+    elim (cases_Bool (is_command words)) [
+      | inl is_command ↦ commanded is_command (subst (λ (b : Bool). Judging words b before.tree after.tree r.ending) is_command r.judging)
+      | inr is_other ↦ let judged = subst (λ (b : Bool). Judging words b before.tree after.tree r.ending) is_other r.judging in other is_other judged.0 judged.1
     ]
 
 pub caused : {words : List (List ℕ)} {before after : Outside} {status : Status} → IsRun words before after status → Cause words before after status
@@ -258,9 +258,9 @@ owed {words = words} {before = before} {after = after} {status = status} r =
     let end = run_reached r.ending r.put before.screen after.screen status r.telling in
     record {
       usage = λ none. by_words (Unless Usage before after status) r (λ command follows. absurd (cc (none, command))) (λ other same is. usage_owed before after status r.ending r.put is end);
-      project = λ command quiet. by_words (IfSome before.tree.files (λ files. Owes (generate files).answer before after status)) r
+      project = λ command quiet. by_words (IfSome before.tree.files (λ files. Owes (asked_by words files).answer before after status)) r
           (λ _ follows. IfSome_then before.tree.files follows.asked (λ files answered.
-          owed_by (generate files).answer (generate files).paths answered.made before after status r.ending r.put answered.ends follows.faults quiet r.putting end))
+          owed_by (asked_by words files).answer (asked_by words files).paths answered.made before after status r.ending r.put answered.ends follows.faults quiet r.putting end))
           (λ other same is. absurd (cc (command, other)));
       write = told_write before after r.ending r.put (lines_of (report_of r.ending r.put)) status r.putting end;
     }

@@ -18,7 +18,7 @@ use Rattle.sq_run.specs.declared.read.Role.TheVariants.{Source}
 use Rattle.sq_run.specs.declared.halt.Halt.{Halt}
 use Rattle.sq_run.specs.Asked.{Follows}
 use Rattle.sq_run.specs.Halts.{IsHaltOf, IsRefusalOf}
-use Rattle.sq_run.specs.Project.{not_yet, checked, whole_file, wanted_file}
+use Rattle.sq_run.specs.Project.{not_yet, refused_file, checked, whole_file, wanted_file}
 use Rattle.sq_run.proofs.Steps.{if_told, called_ok, called_refused, called_halt}
 
 -- what a call says where it found nothing
@@ -38,7 +38,7 @@ is_whole role path bytes (Some all) fits is =
     rw (le-leb (length all) LIMIT size, same) refl
 
 -- a read that went past the limit shows that the file is too long
-is_too_long : (role : Role) (path bytes : List ℕ) (held : Option (List ℕ)) → LIMIT < length bytes → option_map (take (LIMIT + 1)) held ≡ Some bytes → option_map (checked role path) held ≡ Some (Err (not_yet role path ∷ []))
+is_too_long : (role : Role) (path bytes : List ℕ) (held : Option (List ℕ)) → LIMIT < length bytes → option_map (take (LIMIT + 1)) held ≡ Some bytes → option_map (checked role path) held ≡ Some (Err (refused_file role 8 path ∷ []))
 is_too_long role path bytes None long is = absurd (cc is)
 is_too_long role path bytes (Some all) long is =
     let cut : take (LIMIT + 1) all ≡ bytes = cc is in
@@ -49,10 +49,10 @@ pub read_ok : (role : Role) {path bytes : List ℕ} {old new : TreeState} → Is
 read_ok role {path = path} {bytes = bytes} {old = old} call reads fits =
     called_ok path (λ files. option_map (checked role path) (bytes_at files path)) _ _ bytes bytes call (IfSome_then old.files reads.told (λ files is. is_whole role path bytes (bytes_at files path) fits is))
 
-pub read_too_long : (role : Role) {path bytes : List ℕ} {old new : TreeState} (halt : Halt) → IsTreeCall old new (Ok bytes) → Reads LIMIT path old (Ok bytes) → LIMIT < length bytes → IsRefusalOf (not_yet role path ∷ []) halt
+pub read_too_long : (role : Role) {path bytes : List ℕ} {old new : TreeState} (halt : Halt) → IsTreeCall old new (Ok bytes) → Reads LIMIT path old (Ok bytes) → LIMIT < length bytes → IsRefusalOf (refused_file role 8 path ∷ []) halt
     → Follows (whole_file role path) old new (Err halt)
 read_too_long role {path = path} {bytes = bytes} {old = old} halt call reads long halted =
-    called_refused path (λ files. option_map (checked role path) (bytes_at files path)) _ _ bytes (not_yet role path ∷ []) halt call halted (IfSome_then old.files reads.told (λ files is. is_too_long role path bytes (bytes_at files path) long is))
+    called_refused path (λ files. option_map (checked role path) (bytes_at files path)) _ _ bytes (refused_file role 8 path ∷ []) halt call halted (IfSome_then old.files reads.told (λ files is. is_too_long role path bytes (bytes_at files path) long is))
 
 pub read_halted : (role : Role) {path : List ℕ} {old new : TreeState} {fault : TreeFault} (halt : Halt) → IsTreeCall {A = List ℕ} old new (Err fault) → Reads LIMIT path old (Err fault) → IsHaltOf fault path halt
     → Follows (whole_file role path) old new (Err halt)

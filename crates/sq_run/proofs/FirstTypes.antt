@@ -23,7 +23,7 @@ use Rattle.sq_run.specs.declared.statements.CreateTable.{CreateTable}
 use Rattle.sq_run.specs.declared.statements.Named.{Named}
 use Rattle.sq_run.specs.Judged.{judged_names, after_these, node_of, output_of, unknown}
 use Rattle.sq_run.specs.Statements.{Part, is, after, name_at, integer, text, type_at, not_null_at, column_at, next, items_from, items_at, with_item, ended, has_twin, distinct, create_table}
-use Rattle.sq_run.proofs.Options.{bind_some}
+use Rattle.sq_run.proofs.OkSteps.{bind_some}
 
 -- integer or text
 abbrev pub IsFirst : PgType → Type 0

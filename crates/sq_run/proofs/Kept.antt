@@ -20,7 +20,7 @@ use Rattle.sq_run.specs.declared.deliver.PutFault.{PutFault}
 use Rattle.sq_run.specs.Asked.{Follows}
 use Rattle.sq_run.specs.Each.{Each, StopsAt}
 use Rattle.sq_run.specs.Deliver.{Put, PutFails, PutsAll, files_of, report_of}
-use Rattle.sq_run.specs.Project.{is_generate, generate}
+use Rattle.sq_run.specs.Project.{is_command, asked_by}
 use Rattle.sq_run.specs.Run.{Outside, IsRun, files_asked, held_after, HoldsAll, HoldsFront, Kept}
 use Rattle.sq_run.proofs.Steps.{if_told}
 use Rattle.sq_run.proofs.Causes.{Reached, by_status, run_reached, by_words, nothing_put, put_status, intended, lines_of, asked_is}
@@ -79,7 +79,7 @@ all_front : (files : List File) (old new : Option (List File)) → Told (HoldsAl
 all_front files = told_then (HoldsAll files) (HoldsFront files) (λ x y all. record { put = files; left = []; split = sym (append-nil files); held = λ path _. all path })
 
 module _ (words : List (List ℕ)) (before after : Outside) (status : Status) where
-  kept_front : (files : List File) → is_generate words ≡ true → Follows generate before.tree after.tree (Ok files) → Told (HoldsFront files) before.out.files after.out.files → Kept words before after WriteFault
+  kept_front : (files : List File) → is_command words ≡ true → Follows (asked_by words) before.tree after.tree (Ok files) → Told (HoldsFront files) before.out.files after.out.files → Kept words before after WriteFault
   kept_front files command follows told =
       IfSome_then before.tree.files follows.asked (λ held answered. subst (λ (fs : List File). Told (HoldsFront fs) before.out.files after.out.files) (asked_is words held files command answered.ends.0) told)
 
@@ -93,7 +93,7 @@ module _ (words : List (List ℕ)) (before after : Outside) (status : Status) wh
   kept_halt (HaltFailed path) put lines same end = by_status (Kept words before after) end (λ _. same) (λ _ _. same) (kept_none same)
   kept_halt HaltMemory put lines same end = by_status (Kept words before after) end (λ _. kept_none same) (λ _ _. kept_none same) (kept_none same)
 
-  kept_by : (ending : Result (List File) Halt) (put : Result (Unit {0}) PutFault) (lines : List (List ℕ)) → is_generate words ≡ true → Follows generate before.tree after.tree ending → PutsAll (files_of ending) before.out after.out put
+  kept_by : (ending : Result (List File) Halt) (put : Result (Unit {0}) PutFault) (lines : List (List ℕ)) → is_command words ≡ true → Follows (asked_by words) before.tree after.tree ending → PutsAll (files_of ending) before.out after.out put
       → Reached (intended ending put) lines before.screen.faults after.screen.faults status → Kept words before after status
   kept_by (Ok files) (Ok done) lines command follows puts end =
       let all = puts_hold files before.out after.out puts in

@@ -1,7 +1,7 @@
 -- What stands behind the files of an accepted project.
-use Rattle.std.proofs.Common.{◌≡◌, ◌≢◌, ◌≤◌, ℕ, ◌-◌, true, false, List, [], ◌∷◌, length, take, drop, map, Option, None, Some, Result, Ok, Err, refl, sym, ◌∙◌, ap, subst, inl, inr, arith, nat_le, slice_get}
+use Rattle.std.proofs.Common.{◌≡◌, ◌≢◌, ◌≤◌, ℕ, ◌-◌, true, false, List, [], ◌∷◌, length, take, drop, Option, None, Some, Result, Ok, Err, refl, sym, ◌∙◌, ap, subst, inl, inr, arith, nat_le, slice_get}
 use Rattle.std.specs.Prelude.{codes}
-use Rattle.std.specs.Option.{option_map}
+use Rattle.std.specs.Option.{option_map, option_map_or, option_or}
 use Rattle.std.proofs.lemmas.Bool.{cases_Bool, leb-true}
 use Rattle.std.proofs.lemmas.List.{length-drop}
 use Rattle.std.proofs.lemmas.Option.{same_Some}
@@ -11,13 +11,13 @@ use Rattle.sq_base.specs.declared.refusal.Refusal.{Refusal}
 use Rattle.sq_catalog.specs.Contents.{Contents}
 use Rattle.sq_catalog.specs.Catalogue.{placed_table, place_of_table}
 use Rattle.sq_catalog.specs.declared.table.Table.{Table}
-use Rattle.sq_core.specs.Layout.{layout}
+use Rattle.sq_core.specs.Identifiers.{package_name}
 use Rattle.sq_core.specs.Names.{clash}
 use Rattle.sq_core.specs.Sound.{select as select_core}
 use Rattle.sq_core.specs.declared.declaration.ModelDecl.{ModelDecl}
 use Rattle.sq_core.specs.declared.declaration.QuerySig.{QuerySig}
 use Rattle.sq_core.specs.declared.node.Node.{Node}
-use Rattle.sq_core.specs.declared.signature.Output.{Output}
+use Rattle.sq_core.specs.declared.signature.Output.{Output as OutputColumn}
 use Rattle.sq_lexer.specs.Printed.{printed}
 use Rattle.sq_lexer.specs.TokenList.{token_list}
 use Rattle.sq_syntax.specs.declared.token.Token.{Token}
@@ -26,97 +26,112 @@ use Rattle.sq_syntax.specs.declared.token.TokenKind.TheVariants.{Word, Quoted, T
 use Rattle.sq_run.specs.declared.halt.Finding.{Finding}
 use Rattle.sq_run.specs.declared.judge.Judged.{Judged}
 use Rattle.sq_run.specs.declared.query.Query.{Query}
-use Rattle.sq_run.specs.declared.read.Role.TheVariants.{Source}
+use Rattle.sq_run.specs.declared.command_line.Task.TheVariants.{Generate}
+use Rattle.sq_run.specs.declared.configuration.Block.{Block}
+use Rattle.sq_run.specs.declared.configuration.Configuration.{Configuration as Configured}
+use Rattle.sq_run.specs.declared.configuration.Entry.{Entry}
+use Rattle.sq_run.specs.declared.configuration.OptionPair.{OptionPair}
+use Rattle.sq_run.specs.declared.plan.Output.{Output}
+use Rattle.sq_run.specs.declared.plan.Plan.{Plan}
+use Rattle.sq_run.specs.declared.read.Role.{Role}
+use Rattle.sq_run.specs.declared.read.Role.TheVariants.{Configuration, Source}
 use Rattle.sq_run.specs.declared.read.TheConstants.{LIMIT}
 use Rattle.sq_run.specs.declared.statements.CreateTable.{CreateTable}
 use Rattle.sq_run.specs.declared.statements.Select.{Select}
 use Rattle.sq_run.specs.Asked.{nothing_asked}
+use Rattle.serde_json.specs.Data.{Data}
+use Rattle.sq_run.specs.Configuration.{refused, unless_bad, with_good_outs, read_value}
+use Rattle.sq_run.specs.Json.{json_value}
+use Rattle.sq_run.specs.Meaning.{meaning_of}
+use Rattle.sq_run.specs.Outs.{all_entries, same_out, other_writer}
+use Rattle.sq_run.specs.Shape.{bad_key}
+use Rattle.sq_run.specs.Paths.{folder_of}
 use Rattle.sq_run.specs.Judged.{judged, judged_names, judged_select, model_used, unknown}
-use Rattle.sq_run.specs.Project.{schema_path, query_path, checked, whole_file, wanted_file, source, catalogue_with, catalogue_by, catalogue_of, table_of, with_tokens, without_notes, models_of, declared, in_folder, written, project_by, project_with, project_of, configuration, generate}
+use Rattle.sq_run.specs.Project.{checked, whole_file, wanted_file, source, only, output_by, output_in, plan_in, configured_by, configured, configuration_at, catalogue_with, catalogue_by, catalogue_of, table_of, with_tokens, without_notes, models_of, declared, output_files, written, project_by, project_with, judged_bytes, project_files, planned_files, block_files, all_files, requested}
 use Rattle.sq_run.specs.Names.{is_identifier}
 use Rattle.sq_run.specs.Query.{behind, before_end, query_name, noted_name, annotation, annotated, query_of}
 use Rattle.sq_run.specs.Statements.{one_statement, create_table, select}
 use Rattle.sq_run.proofs.FirstTypes.{placed_there, same_ok}
-use Rattle.sq_run.proofs.Options.{bind_some, and_then_ok}
+use Rattle.sq_run.proofs.OkSteps.{bind_some, and_then_ok}
 use Rattle.sq_run.proofs.Sizes.{list_size, notes_size, table_size, query_size, statement_size}
 
 same_answer : {A : Type 0} (r : Result A (List Finding)) (x y : A) → r ≡ Ok x → r ≡ Ok y → x ≡ y
 same_answer r x y one other = cc (one, other)
 
-checked_ok : (path b bytes : List ℕ) → checked Source path b ≡ Ok bytes → (b ≡ bytes) × (length b ≤ LIMIT)
-checked_ok path b bytes is = elim (cases_Bool (nat_le (length b) LIMIT)) [
+checked_ok : (role : Role) (path b bytes : List ℕ) → checked role path b ≡ Ok bytes → (b ≡ bytes) × (length b ≤ LIMIT)
+checked_ok role path b bytes is = elim (cases_Bool (nat_le (length b) LIMIT)) [
   | inl fits ↦ (same_answer _ _ _ refl (rw fits at is), leb-true (length b) LIMIT fits)
   | inr not ↦ absurd (cc (rw not at is))
 ]
 
-held_ok : (path bytes : List ℕ) (found : Option (List ℕ)) → option_map (checked Source path) found ≡ Some (Ok bytes) → (found ≡ Some bytes) × (length bytes ≤ LIMIT)
-held_ok path bytes None is = absurd (cc is)
-held_ok path bytes (Some b) is =
-    let whole = checked_ok path b bytes (same_Some _ _ is) in
+held_ok : (role : Role) (path bytes : List ℕ) (found : Option (List ℕ)) → option_map (checked role path) found ≡ Some (Ok bytes) → (found ≡ Some bytes) × (length bytes ≤ LIMIT)
+held_ok role path bytes None is = absurd (cc is)
+held_ok role path bytes (Some b) is =
+    let whole = checked_ok role path b bytes (same_Some _ _ is) in
     (ap Some whole.0, omega (arith, ap length whole.0, whole.1))
 
 -- a source that was read is held, and not too long
 source_ok : (path bytes : List ℕ) (held : List File) → (source path held).answer ≡ Some (Ok bytes) → (bytes_at held path ≡ Some bytes) × (length bytes ≤ LIMIT)
-source_ok path bytes held is = held_ok path bytes (bytes_at held path) (and_then_ok (wanted_file path held) (λ _. whole_file Source path held) bytes is).2
+source_ok path bytes held is = held_ok Source path bytes (bytes_at held path) (and_then_ok (wanted_file path held) (λ _. whole_file Source path held) bytes is).2
 
-catalogue_ok : (found : Option CreateTable) (contents : Contents) → catalogue_by found ≡ Ok contents → (table : CreateTable) × (found ≡ Some table) × (contents ≡ catalogue_with table)
-catalogue_ok None contents is = absurd (cc is)
-catalogue_ok (Some table) contents is = (table, refl, sym (same_answer _ _ _ refl is))
+catalogue_ok : (path : List ℕ) (found : Option CreateTable) (contents : Contents) → catalogue_by path found ≡ Ok contents → (table : CreateTable) × (found ≡ Some table) × (contents ≡ catalogue_with table)
+catalogue_ok path None contents is = absurd (cc is)
+catalogue_ok path (Some table) contents is = (table, refl, sym (same_answer _ _ _ refl is))
 
-written_ok : (models : List ModelDecl) (queries : List QuerySig) (files : List File) → written models queries ≡ Ok files → (clash models queries ≡ false) × (files ≡ map in_folder (layout (codes "db") models queries))
-written_ok models queries files is = elim (cases_Bool (clash models queries)) [
+-- what was laid out for an output
+pub written_ok : (path : List ℕ) (output : Output) (models : List ModelDecl) (queries : List QuerySig) (files : List File) → written path (Some output) models queries ≡ Ok files → (clash models queries ≡ false) × (files ≡ output_files output models queries)
+written_ok path output models queries files is = elim (cases_Bool (clash models queries)) [
   | inl found ↦ absurd (cc (rw found at is))
   | inr none ↦ (none, sym (same_answer _ _ _ refl (rw none at is)))
 ]
 
--- a judged query whose files are laid out
-pub record FromQuery (contents : Contents) (source : List ℕ) (files : List File) : Type 0 where
+pub written_none : (path : List ℕ) (models : List ModelDecl) (queries : List QuerySig) (files : List File) → written path None models queries ≡ Ok files → files ≡ []
+written_none path models queries files is = sym (same_answer _ _ _ refl is)
+
+-- a judged query of an accepted project
+pub record FromQuery (path : List ℕ) (project : Plan) (contents : Contents) (source : List ℕ) (files : List File) : Type 0 where
   pub tokens : List Token
   pub listed : token_list 1 source ≡ Ok tokens
   pub query : Query
   pub annotated : query_of tokens ≡ Some query
   pub found : Judged
   pub judges : judged contents query.select ≡ Ok found
-  pub apart : clash (models_of contents) (declared query found ∷ []) ≡ false
-  pub laid_out : files ≡ map in_folder (layout (codes "db") (models_of contents) (declared query found ∷ []))
+  pub laid_out : written path project.output (models_of contents) (declared project.queries query found ∷ []) ≡ Ok files
 
-project_ok : (contents : Contents) (source : List ℕ) (files : List File) → project_of contents source ≡ Ok files → FromQuery contents source files
-project_ok contents source files is = by_tokens (token_list 1 source) refl is
+query_ok : (path : List ℕ) (project : Plan) (contents : Contents) (source : List ℕ) (files : List File) → judged_bytes path project contents source ≡ Ok files → FromQuery path project contents source files
+query_ok path project contents source files is = by_tokens (token_list 1 source) refl is
   where
-    by_judged : (tokens : List Token) → token_list 1 source ≡ Ok tokens → (query : Query) → query_of tokens ≡ Some query → (answer : Result Judged Refusal) → judged contents query.select ≡ answer → project_by contents query answer ≡ Ok files → FromQuery contents source files
+    by_judged : (tokens : List Token) → token_list 1 source ≡ Ok tokens → (query : Query) → query_of tokens ≡ Some query → (answer : Result Judged Refusal) → judged contents query.select ≡ answer → project_by path project contents query answer ≡ Ok files → FromQuery path project contents source files
     by_judged tokens listed query there (Err refusal) judges is = absurd (cc is)
-    by_judged tokens listed query there (Ok found) judges is =
-        let laid = written_ok (models_of contents) (declared query found ∷ []) files is in
-        record { tokens = tokens; listed = listed; query = query; annotated = there; found = found; judges = judges; apart = laid.0; laid_out = laid.1 }
+    by_judged tokens listed query there (Ok found) judges is = record { tokens = tokens; listed = listed; query = query; annotated = there; found = found; judges = judges; laid_out = is }
 
-    by_query : (tokens : List Token) → token_list 1 source ≡ Ok tokens → (found : Option Query) → query_of tokens ≡ found → project_with contents found ≡ Ok files → FromQuery contents source files
+    by_query : (tokens : List Token) → token_list 1 source ≡ Ok tokens → (found : Option Query) → query_of tokens ≡ found → project_with path project contents found ≡ Ok files → FromQuery path project contents source files
     by_query tokens listed None there is = absurd (cc is)
     by_query tokens listed (Some query) there is = by_judged tokens listed query there (judged contents query.select) refl is
 
-    by_tokens : (list : Result (List Token) Refusal) → token_list 1 source ≡ list → with_tokens query_path list (λ tokens. project_with contents (query_of tokens)) ≡ Ok files → FromQuery contents source files
+    by_tokens : (list : Result (List Token) Refusal) → token_list 1 source ≡ list → with_tokens project.queries list (λ tokens. project_with path project contents (query_of tokens)) ≡ Ok files → FromQuery path project contents source files
     by_tokens (Err refusal) listed is = absurd (cc is)
     by_tokens (Ok tokens) listed is = by_query tokens listed (query_of tokens) refl is
 
 -- what an accepted project was made from
-pub record FromHeld (held files : List File) : Type 0 where
+pub record FromProject (path : List ℕ) (project : Plan) (held files : List File) : Type 0 where
   pub schema : List ℕ
-  pub schema_held : bytes_at held schema_path ≡ Some schema
+  pub schema_held : bytes_at held project.schema ≡ Some schema
   pub schema_fits : length schema ≤ LIMIT
   pub contents : Contents
-  pub replays : catalogue_of schema ≡ Ok contents
+  pub replays : catalogue_of project.schema schema ≡ Ok contents
   pub source : List ℕ
-  pub source_held : bytes_at held query_path ≡ Some source
+  pub source_held : bytes_at held project.queries ≡ Some source
   pub source_fits : length source ≤ LIMIT
-  pub query : FromQuery contents source files
+  pub query : FromQuery path project contents source files
 
-pub accepted_from : (held files : List File) → (generate held).answer ≡ Some (Ok files) → FromHeld held files
-accepted_from held files is =
-    let a = and_then_ok (configuration held) _ files is in
-    let b = and_then_ok (source schema_path held) _ files a.2 in
-    let c = and_then_ok (nothing_asked (catalogue_of b.0)) _ files b.2 in
-    let d = and_then_ok (source query_path held) _ files c.2 in
-    let schema = source_ok schema_path b.0 held b.1 in
-    let query = source_ok query_path d.0 held d.1 in
+pub project_from : (path : List ℕ) (project : Plan) (held files : List File) → (project_files path project held).answer ≡ Some (Ok files) → FromProject path project held files
+project_from path project held files is =
+    let b = and_then_ok (source project.schema held) _ files is in
+    let c = and_then_ok (nothing_asked (catalogue_of project.schema b.0)) _ files b.2 in
+    let d = and_then_ok (source project.queries held) _ files c.2 in
+    let schema = source_ok project.schema b.0 held b.1 in
+    let query = source_ok project.queries d.0 held d.1 in
     record {
       schema = b.0;
       schema_held = schema.0;
@@ -126,8 +141,108 @@ accepted_from held files is =
       source = d.0;
       source_held = query.0;
       source_fits = query.1;
-      query = project_ok c.0 d.0 files (same_Some _ _ d.2);
+      query = query_ok path project c.0 d.0 files (same_Some _ _ d.2);
     }
+
+-- what an accepted run was made from
+pub record FromHeld (path : List ℕ) (held files : List File) : Type 0 where
+  pub configuration : List ℕ
+  pub configuration_held : bytes_at held path ≡ Some configuration
+  pub blocks : List Block
+  pub configures : configured path configuration ≡ Ok blocks
+  pub made : (all_files path blocks held).answer ≡ Some (Ok files)
+
+pub accepted_from : (path : List ℕ) (held files : List File) → (requested (record { task = Generate; path = path }) held).answer ≡ Some (Ok files) → FromHeld path held files
+accepted_from path held files is =
+    let a = and_then_ok (configuration_at path held) _ files is in
+    let b = and_then_ok (all_files path a.0 held) _ files a.2 in
+    let c = and_then_ok (whole_file Configuration path held) _ a.0 a.1 in
+    let same : b.0 ≡ files = same_answer _ _ _ refl (same_Some _ _ b.2) in
+    record {
+      configuration = c.0;
+      configuration_held = (held_ok Configuration path c.0 (bytes_at held path) c.1).0;
+      blocks = a.0;
+      configures = same_Some _ _ c.2;
+      made = b.1 ∙ ap (λ (fs : List File). Some (Ok fs)) same;
+    }
+
+-- an accepted block has a plan, and its files
+pub record FromBlock (path : List ℕ) (block : Block) (held files : List File) : Type 0 where
+  pub plan : Plan
+  pub planned : plan_in block ≡ Some plan
+  pub from : FromProject path plan held files
+
+pub block_from : (path : List ℕ) (block : Block) (held files : List File) → (block_files path block held).answer ≡ Some (Ok files) → FromBlock path block held files
+block_from path block held files is = by_plan (plan_in block) refl is
+  where
+    by_plan : (found : Option Plan) → plan_in block ≡ found → (planned_files path found held).answer ≡ Some (Ok files) → FromBlock path block held files
+    by_plan None there is = absurd (cc (same_Some _ _ is))
+    by_plan (Some plan) there is = record { plan = plan; planned = there; from = project_from path plan held files is }
+
+-- the output of an entry, of which it is the only one
+pub record FromEntry (entries : List Entry) (output : Output) : Type 0 where
+  pub entry : Entry
+  pub only_one : entries ≡ entry ∷ []
+  pub at_path : output.path ≡ entry.path
+  pub named : output.package_name ≡ package_name entry.options.out
+
+entry_ok : (entry : Entry) (pairs : List OptionPair) (output : Output) → output_by entry pairs ≡ Some output → FromEntry (entry ∷ []) output
+entry_ok entry [] output is = record { entry = entry; only_one = refl; at_path = ap (λ (o : Output). o.path) (sym (same_Some _ _ is)); named = ap (λ (o : Output). o.package_name) (sym (same_Some _ _ is)) }
+entry_ok entry (pair ∷ pairs) output is = absurd (cc is)
+
+entries_ok : (entries : List Entry) (output : Output) → output_in entries ≡ Some (Some output) → FromEntry entries output
+entries_ok [] output is = absurd (cc (same_Some _ _ is))
+entries_ok (entry ∷ []) output is = by_output (output_by entry entry.options.pairs) refl is
+  where
+    by_output : (found : Option Output) → output_by entry entry.options.pairs ≡ found → option_map Some found ≡ Some (Some output) → FromEntry (entry ∷ []) output
+    by_output None there is = absurd (cc is)
+    by_output (Some o) there is = entry_ok entry entry.options.pairs output (there ∙ same_Some _ _ is)
+entries_ok (entry ∷ next ∷ entries) output is = absurd (cc is)
+
+no_entries : (entries : List Entry) → output_in entries ≡ Some None → entries ≡ []
+no_entries [] is = refl
+no_entries (entry ∷ []) is = by_output (output_by entry entry.options.pairs) is
+  where
+    by_output : (found : Option Output) → option_map Some found ≡ Some None → entry ∷ [] ≡ []
+    by_output None is = absurd (cc is)
+    by_output (Some o) is = absurd (cc (same_Some _ _ is))
+no_entries (entry ∷ next ∷ entries) is = absurd (cc is)
+
+plan_output : (block : Block) (plan : Plan) → plan_in block ≡ Some plan → output_in block.entries ≡ Some plan.output
+unfolding plan_in
+plan_output block plan is =
+    let schema = bind_some (only block.schema) _ plan is in
+    let queries = bind_some (only block.queries) _ plan schema.2 in
+    let found = bind_some (output_in block.entries) _ plan queries.2 in
+    found.1 ∙ ap (λ (p : Plan). Some p.output) (same_Some _ _ found.2)
+
+-- a plan's output is that of the block's only entry
+pub entry_from : (block : Block) (plan : Plan) (output : Output) → plan_in block ≡ Some plan → plan.output ≡ Some output → FromEntry block.entries output
+entry_from block plan output is has = entries_ok block.entries output (plan_output block plan is ∙ ap Some has)
+
+-- without an output the block has no entry
+pub entries_none : (block : Block) (plan : Plan) → plan_in block ≡ Some plan → plan.output ≡ None → block.entries ≡ []
+entries_none block plan is has = no_entries block.entries (plan_output block plan is ∙ ap Some has)
+
+-- no two outputs of a configuration are in one folder
+pub outs_apart : (path bytes : List ℕ) (blocks : List Block) → configured path bytes ≡ Ok blocks → same_out (all_entries blocks) ≡ None
+outs_apart path bytes blocks is = by_read (json_value bytes) is
+  where
+    by_same : (found : Option (List ℕ)) (bs : List Block) → same_out (all_entries bs) ≡ found → configured_by path (unless_bad (option_or (option_map (refused 73) found) (option_map (refused 72) (other_writer (all_entries bs)))) (Ok (record { blocks = bs }))) ≡ Ok blocks → same_out (all_entries blocks) ≡ None
+    by_same (Some key) bs there is = absurd (cc is)
+    by_same None bs there is = by_writer (other_writer (all_entries bs)) is
+      where
+        by_writer : (writer : Option (List ℕ)) → configured_by path (unless_bad (option_map (refused 72) writer) (Ok (record { blocks = bs }))) ≡ Ok blocks → same_out (all_entries blocks) ≡ None
+        by_writer (Some name) is = absurd (cc is)
+        by_writer None is = let same : bs ≡ blocks = same_answer _ _ _ refl is in rw (← same) there
+
+    by_key : (bad : Option (List ℕ)) (meaning : Configured) → configured_by path (unless_bad (option_map (refused 71) bad) (with_good_outs meaning)) ≡ Ok blocks → same_out (all_entries blocks) ≡ None
+    by_key (Some key) meaning is = absurd (cc is)
+    by_key None meaning is = by_same (same_out (all_entries meaning.blocks)) meaning.blocks refl is
+
+    by_read : (value : Option Data) → configured_by path (option_map_or (read_value (folder_of path)) value (Err (refused 70 []))) ≡ Ok blocks → same_out (all_entries blocks) ≡ None
+    by_read None is = absurd (cc is)
+    by_read (Some value) is = by_key (bad_key value) (meaning_of (folder_of path) value) is
 
 -- the table of the catalogue
 pub record FromSchema (schema : List ℕ) (contents : Contents) : Type 0 where
@@ -144,13 +259,13 @@ table_ok tokens table is =
     let size = (statement_size (without_notes tokens) statement.0 statement.1).0 in
     (statement.0, statement.2, omega (arith, size, notes_size tokens, table_size statement.0 table statement.2))
 
-pub schema_from : (schema : List ℕ) (contents : Contents) → catalogue_of schema ≡ Ok contents → FromSchema schema contents
-schema_from schema contents is = by_tokens (token_list 0 schema) refl is
+pub schema_from : (path schema : List ℕ) (contents : Contents) → catalogue_of path schema ≡ Ok contents → FromSchema schema contents
+schema_from path schema contents is = by_tokens (token_list 0 schema) refl is
   where
-    by_tokens : (list : Result (List Token) Refusal) → token_list 0 schema ≡ list → with_tokens schema_path list (λ tokens. catalogue_by (table_of tokens)) ≡ Ok contents → FromSchema schema contents
+    by_tokens : (list : Result (List Token) Refusal) → token_list 0 schema ≡ list → with_tokens path list (λ tokens. catalogue_by path (table_of tokens)) ≡ Ok contents → FromSchema schema contents
     by_tokens (Err refusal) listed is = absurd (cc is)
     by_tokens (Ok tokens) listed is =
-        let found = catalogue_ok (table_of tokens) contents is in
+        let found = catalogue_ok path (table_of tokens) contents is in
         let made = table_ok tokens found.0 found.1 in
         record { table = found.0; statement = made.0; reads = made.1; holds = found.2; small = omega (arith, made.2, list_size 0 schema tokens listed) }
 
@@ -228,7 +343,7 @@ pub record FromTable (contents : Contents) (query : Select) (found : Judged) : T
   pub place : ℕ
   pub table : Table
   pub there : slice_get contents.tables place ≡ Some table
-  pub columns : List Node × List Output
+  pub columns : List Node × List OutputColumn
   pub judges : judged_names table query.outputs ≡ Ok columns
   pub is : found ≡ record { core = select_core place columns.0; columns = columns.1; model = model_used table columns.1 }
 
@@ -236,7 +351,7 @@ pub table_from : (contents : Contents) (query : Select) (found : Judged) → jud
 unfolding judged
 table_from contents query found is = by_table (placed_table contents (codes "public") query.table.name) refl is
   where
-    by_names : (place : ℕ) (table : Table) → slice_get contents.tables place ≡ Some table → (answer : Result (List Node × List Output) Refusal) → judged_names table query.outputs ≡ answer → judged_select place table answer ≡ Ok found → FromTable contents query found
+    by_names : (place : ℕ) (table : Table) → slice_get contents.tables place ≡ Some table → (answer : Result (List Node × List OutputColumn) Refusal) → judged_names table query.outputs ≡ answer → judged_select place table answer ≡ Ok found → FromTable contents query found
     by_names place table there (Err refusal) names is = absurd (cc is)
     by_names place table there (Ok columns) names is = record { place = place; table = table; there = there; columns = columns; judges = names; is = sym (same_ok _ _ _ refl is) }
 

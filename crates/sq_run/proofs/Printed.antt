@@ -27,7 +27,7 @@ use Rattle.sq_run.specs.declared.deliver.PutFault.{PutFault}
 use Rattle.sq_run.proofs.Calls.{shows_within}
 use Rattle.sq_run.specs.Asked.{Follows, EndsAt}
 use Rattle.sq_run.specs.Deliver.{unwritten_line, report, put_failed, report_of, Put, PutFails, PutsAll, files_of}
-use Rattle.sq_run.specs.Project.{is_generate, generate}
+use Rattle.sq_run.specs.Project.{is_command, asked_by}
 use Rattle.sq_run.specs.Run.{Outside, IsRun, Tells, files_asked}
 use Rattle.sq_run.specs.Printed.{AreLinesOf, Printed}
 use Rattle.sq_run.proofs.Causes.{by_words}
@@ -118,7 +118,7 @@ module _ (words : List (List ℕ)) (before after : Outside) where
       (stops.item, refl, IfSome_then before.tree.files asked (λ held files_are. subst (λ (fs : List File). Told (StopsBefore stops.item fs) before.out.files after.out.files) files_are (stops_before PutFailed files at before.out after.out stops)))
   put_lines files at PutMemory told asked stops is = absurd (cc is)
 
-  lines_are : (ending : Result (List File) Halt) (put : Result (Unit {0}) PutFault) (told : Report) → is_generate words ≡ true → Follows generate before.tree after.tree ending → PutsAll (files_of ending) before.out after.out put
+  lines_are : (ending : Result (List File) Halt) (put : Result (Unit {0}) PutFault) (told : Report) → is_command words ≡ true → Follows (asked_by words) before.tree after.tree ending → PutsAll (files_of ending) before.out after.out put
       → report_of ending put ≡ Some told → Belongs told
   lines_are (Ok files) (Ok done) told command follows puts is = subst Belongs (same_Some _ _ is) refl
   lines_are (Ok files) (Err stop) told command follows puts is =

@@ -17,7 +17,7 @@ use Rattle.sq_run.specs.declared.statements.Select.{Select}
 use Rattle.sq_run.specs.Names.{same_word, name_text}
 use Rattle.sq_run.specs.Statements.{Part, same_kind, is, named, after, name_at, next, with_item, items_from, items_at, ended, select}
 use Rattle.sq_run.proofs.Models.{both}
-use Rattle.sq_run.proofs.Options.{bind_some}
+use Rattle.sq_run.proofs.OkSteps.{bind_some}
 
 kind_is : (a b : TokenKind) → same_kind a b ≡ true → a ≡ b
 unfolding same_kind

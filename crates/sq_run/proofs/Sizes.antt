@@ -23,7 +23,7 @@ use Rattle.sq_run.specs.declared.statements.Select.{Select}
 use Rattle.sq_run.specs.Statements.{Part, is, named, after, name_at, column_at, next, with_item, items_from, items_at, ended, distinct, has_twin, one_statement, create_table, select}
 use Rattle.sq_run.specs.Names.{name_text}
 use Rattle.sq_run.specs.Project.{is_no_note, without_notes}
-use Rattle.sq_run.proofs.Options.{bind_some}
+use Rattle.sq_run.proofs.OkSteps.{bind_some}
 
 ok_same : {A : Type 0} (x y : A) → ◌≡◌ {A = Result A Refusal} (Ok x) (Ok y) → x ≡ y
 ok_same x y is = cc is

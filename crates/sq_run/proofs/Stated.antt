@@ -20,7 +20,7 @@ use Rattle.sq_run.specs.Lines.{finding_line, usage_lines}
 use Rattle.sq_run.specs.Asked.{Follows, EndsAt}
 use Rattle.sq_run.specs.Each.{StopsAt}
 use Rattle.sq_run.specs.Deliver.{Put, PutFails, Print, PrintsAll, PutsAll, Concludes, files_of, put_failed, report_of, missing_line}
-use Rattle.sq_run.specs.Project.{is_generate, generate}
+use Rattle.sq_run.specs.Project.{is_command, asked_by}
 use Rattle.sq_run.specs.Run.{Outside, IsRun, Tells, IsStated, AsPlanned, Says, HoldsAll, files_asked, text_of}
 use Rattle.sq_run.proofs.Causes.{each_keeps, by_words, asked_is, nothing_put}
 use Rattle.sq_run.proofs.Kept.{puts_hold, told_same}
@@ -58,7 +58,7 @@ module _ (words : List (List ℕ)) (before after : Outside) (status : Status) (q
   Plan held = AsPlanned words held before after status
 
   -- where the run has this report, and its lines are those that are stated
-  planned : (held : List File) (report : Report) → Says (is_generate words) held report.status report.lines → Told (HoldsAll (files_asked words held)) before.out.files after.out.files → Whole report before.screen after.screen status → Plan held
+  planned : (held : List File) (report : Report) → Says words (is_command words) held report.status report.lines → Told (HoldsAll (files_asked words held)) before.out.files after.out.files → Whole report before.screen after.screen status → Plan held
   planned held report says kept whole = record {
     lines = report.lines;
     says = rw whole.meant says;
@@ -70,7 +70,7 @@ module _ (words : List (List ℕ)) (before after : Outside) (status : Status) (q
   none_kept : (held : List File) → files_asked words held ≡ [] → after.out ≡ before.out → Told (HoldsAll (files_asked words held)) before.out.files after.out.files
   none_kept held none same = rw (none, same) (told_same (HoldsAll []) (λ x path. refl) before.out.files)
 
-  command_plan : (ending : Result (List File) Halt) (put : Result (Unit {0}) PutFault) → is_generate words ≡ true → ¬ Rose before.tree.faults after.tree.faults → ¬ Rose before.out.faults after.out.faults → Follows generate before.tree after.tree ending
+  command_plan : (ending : Result (List File) Halt) (put : Result (Unit {0}) PutFault) → is_command words ≡ true → ¬ Rose before.tree.faults after.tree.faults → ¬ Rose before.out.faults after.out.faults → Follows (asked_by words) before.tree after.tree ending
       → PutsAll (files_of ending) before.out after.out put → Tells (report_of ending put) before.screen after.screen status → IfSome before.tree.files Plan
   command_plan (Ok files) (Ok done) command tree out follows puts tells =
       IfSome_then before.tree.files follows.asked (λ held answered.
@@ -99,7 +99,7 @@ module _ (words : List (List ℕ)) (before after : Outside) (status : Status) (q
   command_plan (Err (HaltFailed path)) put command tree out follows puts tells = absurd (tree follows.faults)
   command_plan (Err HaltMemory) put command tree out follows puts tells = absurd (shown_none _ before.screen after.screen status some refl tells)
 
-  usage_plan : (ending : Result (List File) Halt) (put : Result (Unit {0}) PutFault) → is_generate words ≡ false → ending ≡ Err IsUsage → PutsAll (files_of ending) before.out after.out put → Tells (report_of ending put) before.screen after.screen status
+  usage_plan : (ending : Result (List File) Halt) (put : Result (Unit {0}) PutFault) → is_command words ≡ false → ending ≡ Err IsUsage → PutsAll (files_of ending) before.out after.out put → Tells (report_of ending put) before.screen after.screen status
       → IfSome before.tree.files Plan
   usage_plan ending put none is puts tells =
       let nothing = subst (λ (e : Result (List File) Halt). PutsAll (files_of e) before.out after.out put) is puts in

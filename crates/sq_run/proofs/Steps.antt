@@ -90,7 +90,7 @@ module _ {A B : Type 0} (path : List ℕ) (answer : List File → Option (Result
   }
 
 -- what holds together of the files told
-if_told_both : {X : Type 0} (told : Option X) {P Q R : X → Type 0} → IfSome told P → IfSome told Q → ((x : X) → P x → Q x → R x) → IfSome told R
+pub if_told_both : {X : Type 0} (told : Option X) {P Q R : X → Type 0} → IfSome told P → IfSome told Q → ((x : X) → P x → Q x → R x) → IfSome told R
 if_told_both None p q both = tt
 if_told_both (Some x) p q both = both x p q
 
@@ -123,7 +123,7 @@ judged_follows answer state (Err Memory) is = record {
 }
 
 -- the calls of a second part come after those of the first
-ends_later : {B : Type 0} (first : List (List ℕ)) (more : Asked B) (made : List (List ℕ)) (r : Result B Halt) → Ends more made r → Ends (record { paths = first ++ more.paths; answer = more.answer }) (first ++ made) r
+pub ends_later : {B : Type 0} (first : List (List ℕ)) (more : Asked B) (made : List (List ℕ)) (r : Result B Halt) → Ends more made r → Ends (record { paths = first ++ more.paths; answer = more.answer }) (first ++ made) r
 ends_later first more made (Ok value) ends = (ends.0, ap (λ (ps : List (List ℕ)). first ++ ps) ends.1)
 ends_later first more made (Err Usage) ends = absurd ends
 ends_later first more made (Err (Refused findings)) ends = (ends.0, ap (λ (ps : List (List ℕ)). first ++ ps) ends.1)

@@ -28,6 +28,20 @@ and_then {A} {B} first more = elim first.answer [
   ]
 ]
 
+-- the files of two parts, or the findings of both
+abbrev pub joined : {A : Type 0} → Result (List A) (List Finding) → Result (List A) (List Finding) → Result (List A) (List Finding)
+joined (Ok before) (Ok after) = Ok (before ++ after)
+joined (Ok before) (Err findings) = Err findings
+joined (Err findings) (Ok after) = Err findings
+joined (Err findings) (Err more) = Err (findings ++ more)
+
+-- asks more, whatever the first part has answered
+abbrev pub and_also : {A : Type 0} → Asked (List A) → Asked (List A) → Asked (List A)
+and_also {A} first more = elim first.answer [
+  | None ↦ record { paths = first.paths; answer = None }
+  | Some answer ↦ record { paths = first.paths ++ more.paths; answer = option_map (joined {A = A} answer) more.answer }
+]
+
 -- the calls that were made are the first of those asked
 abbrev pub IsFront : List (List ℕ) → List (List ℕ) → Type 0
 IsFront made asked = (left : List (List ℕ)) × (asked ≡ made ++ left)
@@ -84,3 +98,41 @@ Judges answer (Err (Refused findings)) = answer ≡ Err findings
 Judges answer (Err (Missing path)) = ⊥
 Judges answer (Err (Failed path)) = ⊥
 Judges answer (Err Memory) = ⊤
+
+-- how parts end together, by what was judged before and how the rest ends
+abbrev pub ended_with : {A : Type 0} → Result (List A) (List Finding) → Result (List A) Halt → Result (List A) Halt
+ended_with (Ok before) (Ok after) = Ok (before ++ after)
+ended_with (Err findings) (Ok after) = Err (Refused findings)
+ended_with (Ok before) (Err (Refused more)) = Err (Refused more)
+ended_with (Err findings) (Err (Refused more)) = Err (Refused (findings ++ more))
+ended_with before (Err Usage) = Err Usage
+ended_with before (Err (Missing path)) = Err (Missing path)
+ended_with before (Err (Failed path)) = Err (Failed path)
+ended_with before (Err Memory) = Err Memory
+
+-- a part has come to this answer, and goes on
+abbrev pub ComesTo : {A : Type 0} → Result A Halt → Result A (List Finding) → Type 0
+ComesTo (Ok value) answer = answer ≡ Ok value
+ComesTo (Err (Refused findings)) answer = answer ≡ Err findings
+ComesTo (Err Usage) answer = ⊥
+ComesTo (Err (Missing path)) answer = ⊥
+ComesTo (Err (Failed path)) answer = ⊥
+ComesTo (Err Memory) answer = ⊥
+
+-- a part halts the run: its words are no command, a call found nothing or failed, or memory was wanting
+abbrev pub HaltsRun : {A : Type 0} → Result A Halt → Halt → Type 0
+HaltsRun part Usage = part ≡ Err Usage
+HaltsRun part (Refused findings) = ⊥
+HaltsRun part (Missing path) = part ≡ Err (Missing path)
+HaltsRun part (Failed path) = part ≡ Err (Failed path)
+HaltsRun part Memory = ⊤
+
+-- what a part has come to, or how it halts the run
+abbrev pub Comes : {A : Type 0} → Result A Halt → Result (Result A (List Finding)) Halt → Type 0
+Comes part (Ok answer) = ComesTo part answer
+Comes part (Err halt) = HaltsRun part halt
+
+-- what was judged before is joined with what a part has come to, or the part halts the run
+abbrev pub Joins : {A : Type 0} → Result (List A) (List Finding) → Result (List A) Halt → Result (Result (List A) (List Finding)) Halt → Type 0
+Joins {A} before part (Ok both) = (answer : Result (List A) (List Finding)) × ComesTo part answer × (both ≡ joined before answer)
+Joins before part (Err halt) = HaltsRun part halt

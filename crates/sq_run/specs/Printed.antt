@@ -12,7 +12,7 @@ use Rattle.sq_run.specs.Asked.{IsFront, EndsAt}
 use Rattle.sq_run.specs.Status.{unless_screen_failed}
 use Rattle.sq_run.specs.Lines.{finding_line, usage_lines}
 use Rattle.sq_run.specs.Deliver.{missing_line, unread_line, unwritten_line}
-use Rattle.sq_run.specs.Project.{generate}
+use Rattle.sq_run.specs.Project.{asked_by}
 use Rattle.sq_run.specs.Run.{Outside, AtMost, files_asked, held_after, text_of}
 use Rattle.sq_base.specs.Files.{bytes_at}
 
@@ -51,9 +51,9 @@ abbrev pub AreLinesOf : List (List ℕ) → Outside → Outside → Status → L
 AreLinesOf words before after Done lines = lines ≡ []
 AreLinesOf words before after Memory lines = lines ≡ []
 AreLinesOf words before after Usage lines = lines ≡ usage_lines
-AreLinesOf words before after Refused lines = (findings : List Finding) × (lines ≡ map finding_line findings) × IfSome before.tree.files (λ held. (generate held).answer ≡ Some (Err findings))
-AreLinesOf words before after Missing lines = (path : List ℕ) × (lines ≡ missing_line path ∷ []) × IfSome before.tree.files (λ held. EndsAt path (generate held).paths)
-AreLinesOf words before after ReadFault lines = (path : List ℕ) × (lines ≡ unread_line path ∷ []) × IfSome before.tree.files (λ held. FailedAt path (generate held).paths before.tree after.tree)
+AreLinesOf words before after Refused lines = (findings : List Finding) × (lines ≡ map finding_line findings) × IfSome before.tree.files (λ held. (asked_by words held).answer ≡ Some (Err findings))
+AreLinesOf words before after Missing lines = (path : List ℕ) × (lines ≡ missing_line path ∷ []) × IfSome before.tree.files (λ held. EndsAt path (asked_by words held).paths)
+AreLinesOf words before after ReadFault lines = (path : List ℕ) × (lines ≡ unread_line path ∷ []) × IfSome before.tree.files (λ held. FailedAt path (asked_by words held).paths before.tree after.tree)
 AreLinesOf words before after WriteFault lines =
     (file : File) × (lines ≡ unwritten_line file.path ∷ []) × IfSome before.tree.files (λ held. Told (StopsBefore file (files_asked words held)) before.out.files after.out.files)
 

@@ -17,7 +17,7 @@ use Rattle.sq_run.specs.declared.deliver.PutFault.{PutFault}
 use Rattle.sq_run.specs.Lines.{finding_line, usage_lines}
 use Rattle.sq_run.specs.Asked.{EndsAt}
 use Rattle.sq_run.specs.Deliver.{PutsAll, Shows, TellsMemory, files_of, report_of, missing_line}
-use Rattle.sq_run.specs.Project.{is_generate, generate, Judging}
+use Rattle.sq_run.specs.Project.{is_command, asked_by, Judging}
 
 -- all that a run meets outside
 pub record Outside : Type 0 where
@@ -36,7 +36,7 @@ Tells report old new status = ((shown : Report) × (report ≡ Some shown) × Sh
 pub record IsRun (words : List (List ℕ)) (before after : Outside) (status : Status) : Type 0 where
   pub ending : Result (List File) Halt
   pub put : Result (Unit {0}) PutFault
-  pub judging : Judging (is_generate words) before.tree after.tree ending
+  pub judging : Judging words (is_command words) before.tree after.tree ending
   pub putting : PutsAll (files_of ending) before.out after.out put
   pub telling : Tells (report_of ending put) before.screen after.screen status
 
@@ -53,8 +53,8 @@ pub record Served (before after : Outside) : Type 0 where
 
 -- The words are a command. Over the files held, where the tree tells them, it comes to this, or to None where it asks for what isn't there.
 pub record ComesTo (words : List (List ℕ)) (before : Outside) (P : Option (Result (List File) (List Finding)) → Type 0) : Type 0 where
-  pub command : is_generate words ≡ true
-  pub project : IfSome before.tree.files (λ files. P (generate files).answer)
+  pub command : is_command words ≡ true
+  pub project : IfSome before.tree.files (λ files. P (asked_by words files).answer)
 
 abbrev pub IsAccepted : Option (Result (List File) (List Finding)) → Type 0
 IsAccepted answer = (files : List File) × (answer ≡ Some (Ok files))
@@ -70,7 +70,7 @@ accepted (Some (Ok files)) = files
 
 -- the files to be put for these words, over the files held
 abbrev pub files_asked : List (List ℕ) → List File → List File
-files_asked words held = if is_generate words then accepted (generate held).answer else []
+files_asked words held = if is_command words then accepted (asked_by words held).answer else []
 
 -- the status and the lines that belong to what a run comes to
 abbrev pub SaysFor : Option (Result (List File) (List Finding)) → List (List ℕ) → Status → List (List ℕ) → Type 0
@@ -79,13 +79,13 @@ SaysFor (Some (Err findings)) paths status lines = (status ≡ Refused) × (line
 SaysFor (Some (Ok files)) paths status lines = (status ≡ Done) × (lines ≡ [])
 
 -- the status and the lines that belong to these words over the files held
-abbrev pub Says : Bool → List File → Status → List (List ℕ) → Type 0
-Says true held status lines = SaysFor (generate held).answer (generate held).paths status lines
-Says false held status lines = (status ≡ Usage) × (lines ≡ usage_lines)
+abbrev pub Says : List (List ℕ) → Bool → List File → Status → List (List ℕ) → Type 0
+Says words true held status lines = SaysFor (asked_by words held).answer (asked_by words held).paths status lines
+Says words false held status lines = (status ≡ Usage) × (lines ≡ usage_lines)
 
 -- the paths of the tree's calls that these words ask for
 abbrev pub paths_asked : List (List ℕ) → List File → List (List ℕ)
-paths_asked words held = if is_generate words then (generate held).paths else []
+paths_asked words held = if is_command words then (asked_by words held).paths else []
 
 -- where the tree tells its files, there are files to be put
 abbrev pub HasFiles : List (List ℕ) → Outside → Type 0
@@ -93,12 +93,12 @@ HasFiles words before = IfSome before.tree.files (λ held. files_asked words hel
 
 -- where the tree tells its files, there is something to be printed
 abbrev pub HasLines : List (List ℕ) → Outside → Type 0
-HasLines words before = IfSome before.tree.files (λ held. (meant : Status) × (lines : List (List ℕ)) × Says (is_generate words) held meant lines × (lines ≢ []))
+HasLines words before = IfSome before.tree.files (λ held. (meant : Status) × (lines : List (List ℕ)) × Says words (is_command words) held meant lines × (lines ≢ []))
 
 -- why a run gave its answer
 abbrev pub Cause : List (List ℕ) → Outside → Outside → Status → Type 0
 Cause words before after Done = Served before after × ComesTo words before IsAccepted
-Cause words before after Usage = is_generate words ≡ false
+Cause words before after Usage = is_command words ≡ false
 Cause words before after Refused = TreeServed before.tree after.tree × ComesTo words before IsRefusal
 Cause words before after Missing = Rose before.tree.missings after.tree.missings × (after.tree.faults ≤ before.tree.faults) × ComesTo words before (λ answer. answer ≡ None)
 Cause words before after ReadFault = Rose before.tree.faults after.tree.faults
@@ -123,8 +123,8 @@ WriteFailed before after = (before.out.faults < after.out.faults) ⊎ (before.sc
 
 -- what a run owes
 pub record IsOwed (words : List (List ℕ)) (before after : Outside) (status : Status) : Type 0 where
-  pub usage : is_generate words ≡ false → Unless Usage before after status
-  pub project : is_generate words ≡ true → ¬ Rose before.tree.faults after.tree.faults → IfSome before.tree.files (λ files. Owes (generate files).answer before after status)
+  pub usage : is_command words ≡ false → Unless Usage before after status
+  pub project : is_command words ≡ true → ¬ Rose before.tree.faults after.tree.faults → IfSome before.tree.files (λ files. Owes (asked_by words files).answer before after status)
   pub write : WriteFailed before after → status ≢ Missing → status ≢ ReadFault → status ≢ Memory → status ≡ WriteFault
 
 -- what a path holds after these files were put
@@ -166,7 +166,7 @@ text_of (line ∷ lines) = line ++ text_of lines
 -- what a run does over the files held: its status, what the screen shows and the files put are the stated ones
 pub record AsPlanned (words : List (List ℕ)) (held : List File) (before after : Outside) (status : Status) : Type 0 where
   pub lines : List (List ℕ)
-  pub says : Says (is_generate words) held status lines
+  pub says : Says words (is_command words) held status lines
   pub shown : Told (Appends (text_of lines)) before.screen.text after.screen.text
   pub kept : Told (HoldsAll (files_asked words held)) before.out.files after.out.files
 

@@ -1,11 +1,15 @@
 //! The top call: it judges a project that is read from a tree, puts files, and prints.
 #![tactic(auto)]
 
+mod command_line;
+mod configuration;
 mod deliver;
 mod halt;
 mod judge;
 mod lines;
 mod names;
+mod paths;
+mod plan;
 mod project;
 mod query;
 mod read;
@@ -13,6 +17,12 @@ mod run;
 mod statements;
 mod status;
 
+pub use command_line::{Request, Task, read_words};
+pub use configuration::{
+    BadConfiguration, Block, Configuration, Entry, OptionPair, OptionValue, Options, Unread,
+    configuration_of,
+};
 pub use halt::{Finding, Halt};
+pub use paths::{folder_of, is_accepted_path, joined_path};
 pub use run::sqlc;
 pub use status::Status;

@@ -51,8 +51,13 @@ fn word(number: u8) -> &'static str
         1 => "Unterminated",
         2 => "BadByte",
         3 => "NotUtf8",
+        8 => "FileTooLong",
         10 => "UnknownTable",
         11 => "UnknownColumn",
+        70 => "BadJson",
+        71 => "BadKey",
+        72 => "NoWriter",
+        73 => "SameOut",
         _ => "NotYet",
     }
 }

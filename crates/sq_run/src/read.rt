@@ -38,22 +38,22 @@ pub fn one(alloc: Global, finding: Finding) -> Result<List<Finding>, AllocError>
     Ok(findings)
 }
 
-/// Says of a file that it has a form that isn't built yet.
-fn not_yet(alloc: Global, role: Role, path: &str) -> Result<Finding, AllocError>
-    ensures { IfOk result (λ finding. finding ≡ Project.not_yet role path.now) }
+/// Refuses a file by a number.
+fn refused_file(alloc: Global, role: Role, number: u8, path: &str) -> Result<Finding, AllocError>
+    ensures { IfOk result (λ finding. finding ≡ Project.refused_file role number path.now) }
 {
     let path = Name::new(alloc, path)?;
     let first = Name::new(alloc, "")?;
     match role {
         Role::Configuration => Ok(Finding::Configuration {
             path,
-            number: 99,
+            number,
             first,
         }),
         Role::Source => Ok(Finding::Source {
             path,
             refusal: Refusal {
-                number: 99,
+                number,
                 place: Place {
                     file: 0,
                     line: 1,
@@ -66,21 +66,33 @@ fn not_yet(alloc: Global, role: Role, path: &str) -> Result<Finding, AllocError>
     }
 }
 
-/// The list of this one finding about a file with a form that isn't built yet.
-fn one_not_yet(alloc: Global, role: Role, path: &str) -> Result<List<Finding>, AllocError>
-    ensures { IfOk result (λ findings. findings ≡ Project.not_yet role path.now ∷ []) }
+/// The list of this one refusal of a file.
+fn one_refused(
+    alloc: Global,
+    role: Role,
+    number: u8,
+    path: &str,
+) -> Result<List<Finding>, AllocError>
+    ensures { IfOk result (λ findings. findings ≡ Project.refused_file role number path.now ∷ []) }
 {
-    one(alloc, not_yet(alloc, role, path)?)
+    one(alloc, refused_file(alloc, role, number, path)?)
+}
+
+/// Ends the run with this one refusal of a file.
+fn refuse_file(alloc: Global, role: Role, number: u8, path: &str) -> Halt
+    ensures { IsRefusalOf (Project.refused_file role number path.now ∷ []) result }
+{
+    match one_refused(alloc, role, number, path) {
+        Ok(findings) => Halt::Refused(findings),
+        Err(_) => Halt::Memory,
+    }
 }
 
 /// Refuses a file with a form that isn't built yet.
 pub fn refuse(alloc: Global, role: Role, path: &str) -> Halt
     ensures { IsRefusalOf (Project.not_yet role path.now ∷ []) result }
 {
-    match one_not_yet(alloc, role, path) {
-        Ok(findings) => Halt::Refused(findings),
-        Err(_) => Halt::Memory,
-    }
+    refuse_file(alloc, role, 99, path)
 }
 
 /// Reads the file at a path, whole.
@@ -94,7 +106,7 @@ pub fn read_whole<T: Tree>(
     ensures within { IfOk result (λ bytes. length bytes ≤ LIMIT) }
 {
     match tree.read(alloc, path, LIMIT) {
-        Ok(bytes) if bytes.len() > LIMIT => Err(refuse(alloc, role, path)),
+        Ok(bytes) if bytes.len() > LIMIT => Err(refuse_file(alloc, role, 8, path)),
         Ok(bytes) => Ok(bytes),
         Err(fault) => Err(halt(alloc, path, fault)),
     }

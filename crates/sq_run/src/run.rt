@@ -1,7 +1,6 @@
 ghost use Rattle.std.specs.Prelude.{◌≡◌, ◌⊎◌, ◌≤◌, ◌<◌, map, string_bytes, false, None, Ok};
 ghost use Rattle.sq_base.specs.Counts.{Rose};
 ghost use Rattle.sq_run.specs.Deliver.{PutsAll, files_of};
-ghost use Rattle.sq_run.specs.Project.{is_generate};
 ghost use Rattle.sq_run.specs.Run.{outside, IsRun, IsStated, Cause, IsOwed, Kept, WithinCalls};
 ghost use Rattle.sq_run.specs.Printed.{Printed};
 ghost use Rattle.sq_run.specs.Headline.{Headline};

@@ -1,3 +1,7 @@
+mod configurations;
+mod paths;
+mod words;
+
 use crate::disk::{DiskOut, DiskTree};
 use sq_base::{File, List, Listing, MemoryOut, MemorySink, MemoryTree, Name, Out, Tree, TreeFault};
 use sq_run::{Status, sqlc};
@@ -488,17 +492,62 @@ const USAGE: &str =
     "usage: sqlc generate|compile|signatures [-f PATH | --file PATH | --file=PATH]\n       sqlc selftest N\n";
 
 /// Words that are no command.
-const OTHER_WORDS: [&[&str]; 4] = [&[], &["compile"], &["Generate"], &["generate", "-f"]];
+const OTHER_WORDS: [&[&str]; 5] = [
+    &[],
+    &["signatures"],
+    &["Generate"],
+    &["generate", "-f"],
+    &["compile", "--file="],
+];
 
 /// Files held, the text that `generate` prints over them, and its status.
-const HELD: [(&[(&str, &str)], &str, u8); 8] = [
+const HELD: [(&[(&str, &str)], &str, u8); 15] = [
     (&[], "sqlc.json: no such file or folder\n", 6),
     (
         &[("sqlc.json/a", "{}")],
         "sqlc.json: no such file or folder\n",
         6,
     ),
-    (&[("sqlc.json", "{}")], "sqlc.json: [99] NotYet\n", 1),
+    (&[("sqlc.json", "{}")], "sqlc.json: [71] BadKey sql\n", 1),
+    (&[("sqlc.json", "{")], "sqlc.json: [70] BadJson\n", 1),
+    (
+        &[("sqlc.json", "{\"version\":\"1\",\"sql\":[]}")],
+        "sqlc.json: [71] BadKey version\n",
+        1,
+    ),
+    (&[("sqlc.json", "{\"version\":\"2\",\"sql\":[]}")], "", 0),
+    (
+        &[(
+            "sqlc.json",
+            "{\"version\":\"2\",\"sql\":[{\"engine\":\"postgresql\",\"schema\":\"s\",\"queries\":\"q\",\"codegen\":[{\"plugin\":\"py\",\"out\":\"b\"}]}]}",
+        )],
+        "sqlc.json: [72] NoWriter py\n",
+        1,
+    ),
+    (
+        &[(
+            "sqlc.json",
+            "{\"version\":\"2\",\"sql\":[{\"engine\":\"postgresql\",\"schema\":\"s\",\"queries\":\"q\",\"gen\":{\"go\":{\"out\":\"db/\"}},\"codegen\":[{\"plugin\":\"go\",\"out\":\"./db\"}]}]}",
+        )],
+        "sqlc.json: [73] SameOut sql[0].codegen[0]\n",
+        1,
+    ),
+    (
+        &[(
+            "sqlc.json",
+            "{\"version\":\"2\",\"sql\":[{\"engine\":\"postgresql\",\"schema\":\"s\",\"queries\":\"q\",\"gen\":{\"go\":{\"out\":\"db\",\"package\":\"p\"}}}]}",
+        )],
+        "sqlc.json: [99] NotYet\n",
+        1,
+    ),
+    (
+        &[(
+            "sqlc.json",
+            "{\"version\":\"2\",\"sql\":[{\"engine\":\"postgresql\",\"schema\":[],\"queries\":\"q\"}]}",
+        )],
+        "sqlc.json: [99] NotYet\n",
+        1,
+    ),
     (
         &[("sqlc.json", CONFIGURATION)],
         "schema.sql: no such file or folder\n",
@@ -529,6 +578,260 @@ const HELD: [(&[(&str, &str)], &str, u8); 8] = [
         1,
     ),
 ];
+
+/// A configuration of one block whose paths lead elsewhere.
+const ELSEWHERE: &str =
+    "{\"version\":\"2\",\"plugins\":[],\"sql\":[{\"engine\":\"postgresql\",\"schema\":[\"./sql//tables\"],\"queries\":\"sql/list.sql\",\"codegen\":[{\"plugin\":\"go\",\"out\":\"../out/my-db/\",\"options\":{}}]}]}";
+
+/// A configuration of one block without an output.
+const UNWRITTEN: &str =
+    "{\"version\":\"2\",\"sql\":[{\"engine\":\"postgresql\",\"schema\":\"schema.sql\",\"queries\":\"q.sql\"}]}";
+
+/// A configuration of two blocks.
+const TWO: &str =
+    "{\"version\":\"2\",\"sql\":[{\"engine\":\"postgresql\",\"schema\":\"schema.sql\",\"queries\":\"q.sql\",\"gen\":{\"go\":{\"out\":\"a\"}}},{\"engine\":\"postgresql\",\"schema\":\"schema.sql\",\"queries\":\"r.sql\",\"gen\":{\"go\":{\"out\":\"b\"}}}]}";
+
+/// A configuration of two blocks, the first of which asks for more than is built.
+const MORE: &str =
+    "{\"version\":\"2\",\"sql\":[{\"engine\":\"postgresql\",\"schema\":[\"schema.sql\",\"more.sql\"],\"queries\":\"q.sql\"},{\"engine\":\"postgresql\",\"schema\":\"schema.sql\",\"queries\":\"r.sql\"}]}";
+
+/// Words over files held, the text that is printed, the status, and the paths of the files put.
+const REQUESTS: [(&[&str], &[(&str, &str)], &str, u8, &[&str]); 15] = [
+    (
+        &["compile"],
+        &[
+            ("sqlc.json", CONFIGURATION),
+            ("schema.sql", SCHEMA),
+            ("q.sql", QUERY),
+        ],
+        "",
+        0,
+        &[],
+    ),
+    (
+        &["compile"],
+        &[
+            ("sqlc.json", CONFIGURATION),
+            ("schema.sql", SCHEMA),
+            ("q.sql", "-- name: ListT :many\nSELECT x FROM t;"),
+        ],
+        "q.sql:2:8: [11] UnknownColumn x\n",
+        1,
+        &[],
+    ),
+    (
+        &["generate", "-f", "nope.json"],
+        &[("sqlc.json", CONFIGURATION)],
+        "nope.json: no such file or folder\n",
+        6,
+        &[],
+    ),
+    (
+        &["generate", "-f", "a/sqlc.json"],
+        &[
+            ("a/sqlc.json", CONFIGURATION),
+            ("a/schema.sql", SCHEMA),
+            ("a/q.sql", QUERY),
+        ],
+        "",
+        0,
+        &["a/db/db.go", "a/db/models.go", "a/db/q.sql.go"],
+    ),
+    (
+        &["generate", "--file", "/p.json"],
+        &[("/p.json", CONFIGURATION), ("/schema.sql", SCHEMA)],
+        "/q.sql: no such file or folder\n",
+        6,
+        &[],
+    ),
+    (
+        &["generate", "--file=a/-x"],
+        &[
+            ("a/-x", ELSEWHERE),
+            ("a/sql/tables", SCHEMA),
+            ("a/sql/list.sql", QUERY),
+        ],
+        "",
+        0,
+        &[
+            "a/../out/my-db/db.go",
+            "a/../out/my-db/models.go",
+            "a/../out/my-db/list.sql.go",
+        ],
+    ),
+    (
+        &["generate", "-f", "a/-x"],
+        &[
+            ("a/-x", ELSEWHERE),
+            ("a/sql/tables", SCHEMA),
+            ("a/sql/list.sql", "SELECT 1"),
+        ],
+        "a/sql/list.sql:1:1: [99] NotYet\n",
+        1,
+        &[],
+    ),
+    (
+        &["generate"],
+        &[
+            ("sqlc.json", UNWRITTEN),
+            ("schema.sql", SCHEMA),
+            ("q.sql", QUERY),
+        ],
+        "",
+        0,
+        &[],
+    ),
+    (
+        &["generate"],
+        &[
+            ("sqlc.json", UNWRITTEN),
+            ("schema.sql", SCHEMA),
+            ("q.sql", "-- name: ListT :many\nSELECT id FROM u;"),
+        ],
+        "q.sql:2:16: [10] UnknownTable u\n",
+        1,
+        &[],
+    ),
+    (
+        &["generate"],
+        &[
+            ("sqlc.json", TWO),
+            ("schema.sql", SCHEMA),
+            ("q.sql", QUERY),
+            ("r.sql", "-- name: ListN :many\nSELECT name FROM t;"),
+        ],
+        "",
+        0,
+        &[
+            "a/db.go",
+            "a/models.go",
+            "a/q.sql.go",
+            "b/db.go",
+            "b/models.go",
+            "b/r.sql.go",
+        ],
+    ),
+    (
+        &["compile"],
+        &[
+            ("sqlc.json", TWO),
+            ("schema.sql", SCHEMA),
+            ("q.sql", QUERY),
+            ("r.sql", QUERY),
+        ],
+        "",
+        0,
+        &[],
+    ),
+    (
+        &["generate"],
+        &[
+            ("sqlc.json", TWO),
+            ("schema.sql", SCHEMA),
+            ("q.sql", QUERY),
+            ("r.sql", "-- name: ListX :many\nSELECT x FROM t;"),
+        ],
+        "r.sql:2:8: [11] UnknownColumn x\n",
+        1,
+        &[],
+    ),
+    (
+        &["generate"],
+        &[
+            ("sqlc.json", TWO),
+            ("schema.sql", SCHEMA),
+            ("q.sql", "-- name: ListU :many\nSELECT id FROM u;"),
+            ("r.sql", "-- name: ListX :many\nSELECT x FROM t;"),
+        ],
+        "q.sql:2:16: [10] UnknownTable u\nr.sql:2:8: [11] UnknownColumn x\n",
+        1,
+        &[],
+    ),
+    (
+        &["generate"],
+        &[
+            ("sqlc.json", TWO),
+            ("schema.sql", SCHEMA),
+            ("q.sql", "-- name: ListU :many\nSELECT id FROM u;"),
+        ],
+        "r.sql: no such file or folder\n",
+        6,
+        &[],
+    ),
+    (
+        &["generate"],
+        &[
+            ("sqlc.json", MORE),
+            ("schema.sql", SCHEMA),
+            ("r.sql", "-- name: ListX :many\nSELECT x FROM t;"),
+        ],
+        "sqlc.json: [99] NotYet\nr.sql:2:8: [11] UnknownColumn x\n",
+        1,
+        &[],
+    ),
+];
+
+/// Whether these files were put, in this order.
+fn has_put(left: &Remains, paths: &[&str]) -> bool {
+    left.out.files().len() == paths.len()
+        && left
+            .out
+            .files()
+            .iter()
+            .zip(paths)
+            .all(|(file, path)| file.path.as_str() == *path)
+}
+
+#[test]
+fn each_request_is_met(rt: HostRuntime) -> Result<(), Fail> {
+    for (words, held, text, code, paths) in &REQUESTS {
+        let left = run(rt.alloc(), words, held, NONE)?;
+        assert_eq!(rt; left.screen.text(), text.as_bytes(), "at {text}");
+        assert_eq!(rt; left.status.code(), *code, "at {text}");
+        assert!(rt; has_put(&left, paths), "at {text}");
+    }
+    Ok(())
+}
+
+#[test]
+fn a_package_is_named_after_its_folder(rt: HostRuntime) -> Result<(), Fail> {
+    let held = [
+        ("sqlc.json", ELSEWHERE),
+        ("sql/tables", SCHEMA),
+        ("sql/list.sql", QUERY),
+    ];
+    let left = run(rt.alloc(), &["generate"], &held, NONE)?;
+    for file in left.out.files() {
+        let front = b"// Code generated by sqlc. DO NOT EDIT.\n\npackage my_db\n\n";
+        assert!(rt; file.bytes.as_slice().starts_with(front.as_slice()));
+    }
+    assert_eq!(rt; left.out.files().len(), 3);
+    Ok(())
+}
+
+#[test]
+fn a_file_may_be_too_long(rt: HostRuntime) -> Result<(), Fail> {
+    let alloc = rt.alloc();
+    let mut files = List::new(alloc);
+    files.push(file(alloc, "sqlc.json", CONFIGURATION)?)?;
+    files.push(File {
+        path: Name::new(alloc, "schema.sql")?,
+        bytes: long_file(alloc)?,
+    })?;
+    let left = run_over(alloc, &["generate"], files, NONE)?;
+    assert!(rt; ends_as(&left, "schema.sql:1:1: [8] FileTooLong\n", 1, 0));
+    Ok(())
+}
+
+/// One byte more than a file may have.
+fn long_file(alloc: Global) -> Result<List<u8>, AllocError> {
+    let mut bytes = List::new(alloc);
+    for _ in 0..65_536 {
+        bytes.extend_from_slice(&[b' '; 64])?;
+    }
+    bytes.push(b' ')?;
+    Ok(bytes)
+}
 
 /// Calls that fail, the text that `generate` then prints, its status, and the number of files put.
 const FAILURES: [(Failing, &str, u8, usize); 9] = [

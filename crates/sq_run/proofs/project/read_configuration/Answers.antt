@@ -8,4 +8,4 @@ returns-in_err-bytes g c = let p = err_from_is_err_and c.from_residual.result c.
 
 pub returns : goal.returns
 returns g c =
-    followed _ _ _ _ _ _ _ c.in_ok-bytes.ensures.follows (judged_follows (configured c.in_ok-bytes.bytes) _ c.configure.result (rw (← c.as_slice.ensures) c.configure.ensures))
+    followed _ _ _ _ _ _ _ c.in_ok-bytes.ensures.follows (judged_follows (configured c.args.path.now c.in_ok-bytes.bytes) _ c.configure.result (rw (← c.as_slice.ensures) c.configure.ensures))

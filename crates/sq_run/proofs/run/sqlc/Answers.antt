@@ -32,6 +32,7 @@ returns-clause-headline g c =
       read = c.reads_as_written.ensures;
       models = c.identifiers_are_words.ensures.models;
       constants = c.identifiers_are_words.ensures.constants;
+      packages = c.identifiers_are_words.ensures.packages;
       rows = c.identifiers_are_words.ensures.rows;
       field_words = c.fields_are_words.ensures.fields;
       column_words = c.fields_are_words.ensures.columns;

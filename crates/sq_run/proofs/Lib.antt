@@ -1,3 +1,4 @@
+pub mod BlocksApart
 pub mod Calls
 pub mod Causes
 pub mod Each
@@ -11,10 +12,12 @@ pub mod Items
 pub mod Kept
 pub mod Models
 pub mod OkSteps
+pub mod Origins
 pub mod Placeless
 pub mod Plans
 pub mod Printed
 pub mod Readables
+pub mod Says
 pub mod Seen
 pub mod Simple
 pub mod Sizes

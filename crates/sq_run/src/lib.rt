@@ -1,10 +1,13 @@
 //! The top call: it judges a project that is read from a tree, puts files, and prints.
 #![tactic(auto)]
 
+mod blocks;
 mod command_line;
 mod configuration;
+mod declare;
 mod deliver;
 mod halt;
+mod joining;
 mod judge;
 mod lines;
 mod names;
@@ -14,8 +17,10 @@ mod project;
 mod query;
 mod read;
 mod run;
+mod schema;
 mod statements;
 mod status;
+mod write;
 
 pub use command_line::{Request, Task, read_words};
 pub use configuration::{

@@ -1,11 +1,15 @@
-ghost use Rattle.std.specs.Prelude.{◌≡◌, ◌≤◌, [], ◌∷◌, length, IfOk};
-ghost use Rattle.sq_run.specs.Asked.{Follows};
+ghost use Rattle.std.specs.Prelude.{◌≡◌, ◌≤◌, [], ◌∷◌, length, Ok, IfOk};
+ghost use Rattle.sq_lexer.specs.TokenList.{token_list};
+ghost use Rattle.sq_run.specs.Asked.{Follows, Judges};
+ghost use Rattle.sq_run.specs.declared.halt.Finding.TheVariants.{Source as InSource};
 ghost use Rattle.sq_run.specs.Project;
-ghost use Rattle.sq_run.specs.Project.{whole_file, wanted_file, source};
+ghost use Rattle.sq_run.specs.Project.{whole_file, wanted_file, source, with_tokens};
 ghost use Rattle.sq_run.specs.Halts.{IsHaltOf, IsRefusalOf};
 
 use crate::{Finding, Halt};
-use sq_base::{List, Listing, Name, Place, Refusal, Tree, TreeFault};
+use sq_base::{Fault, List, Listing, Name, Place, Refusal, Tree, TreeFault};
+use sq_lexer::tokens;
+use sq_syntax::Token;
 use std::alloc::{AllocError, Global};
 
 /// The most bytes that a file may have.
@@ -130,4 +134,29 @@ pub fn read_source<T: Tree>(alloc: Global, tree: &mut T, path: &str) -> Result<L
 {
     want_file(alloc, tree, path)?;
     read_whole(alloc, tree, Role::Source, path)
+}
+
+/// The one finding of a source file.
+pub fn refuse_source(alloc: Global, path: &str, refusal: Refusal) -> Halt
+    ensures { IsRefusalOf (InSource path.now refusal ∷ []) result }
+{
+    let Ok(path) = Name::new(alloc, path) else {
+        return Halt::Memory;
+    };
+    match one(alloc, Finding::Source { path, refusal }) {
+        Ok(findings) => Halt::Refused(findings),
+        Err(_) => Halt::Memory,
+    }
+}
+
+/// The tokens of a source file.
+pub fn read_tokens(alloc: Global, path: &str, file: u32, bytes: &[u8]) -> Result<List<Token>, Halt>
+    requires { length bytes.now ≤ LIMIT }
+    ensures { Judges (with_tokens path.now (token_list file bytes.now) Ok) result }
+{
+    match tokens(alloc, file, bytes) {
+        Ok(tokens) => Ok(tokens),
+        Err(Fault::Refused(refusal)) => Err(refuse_source(alloc, path, refusal)),
+        Err(Fault::Memory) => Err(Halt::Memory),
+    }
 }

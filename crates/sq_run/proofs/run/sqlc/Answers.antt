@@ -1,8 +1,9 @@
 use Rattle.sq_run.proofs.Calls.{within}
 use Rattle.sq_run.proofs.Causes.{caused, owed}
-use Rattle.sq_run.proofs.Headlined.{Laws, headlined}
+use Rattle.sq_run.proofs.Headlined.{headlined}
 use Rattle.sq_run.proofs.Kept.{kept}
 use Rattle.sq_run.proofs.Printed.{printed}
+use Rattle.sq_run.proofs.Says.{Laws}
 use Rattle.sq_run.proofs.Stated.{stated}
 use Rattle.sq_run.proofs.run.sqlc.Goals as goal
 

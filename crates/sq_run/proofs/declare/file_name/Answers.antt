@@ -3,7 +3,7 @@ use Rattle.std.proofs.lemmas.List.{length-take}
 use Rattle.std.proofs.lemmas.Str.Pattern.{rfind_char}
 use Rattle.sq_run.specs.Paths.{folder_of}
 use Rattle.sq_run.proofs.Folders.{folder_of-none, folder_of-last}
-use Rattle.sq_run.proofs.project.file_name.Goals as goal
+use Rattle.sq_run.proofs.declare.file_name.Goals as goal
 
 pub returns-in-Some : goal.returns-in-Some
 returns-in-Some c =

@@ -3,7 +3,7 @@ use Rattle.std.proofs.Common.{ℕ, List, Ok, Err, subst}
 use Rattle.sq_run.specs.Asked.{Judges}
 use Rattle.sq_run.specs.Project.{catalogue_of, judged_bytes}
 use Rattle.sq_run.proofs.Steps.{followed, stopped, judged_follows}
-use Rattle.sq_run.proofs.project.judge_plan.Goals as goal
+use Rattle.sq_run.proofs.blocks.judge_plan.Goals as goal
 
 pub returns-in_err-schema : goal.returns-in_err-schema
 returns-in_err-schema g c = let p = err_from_is_err_and c.from_residual.result c.from_residual.ensures.1 in rw (p.1, p.2) (stopped _ _ _ _ _ c.in_err-schema.ensures.follows)

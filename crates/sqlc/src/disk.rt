@@ -37,11 +37,13 @@ impl<'a, R: Files + AllocGlobal> DiskTree<'a, R> {
     }
 }
 
-// What an error of the system is.
+// What an error of the system is. A folder is no file that can be read, and nothing lies in a file.
 fn fault_of(error: &io::Error) -> TreeFault {
     match error.kind() {
         ErrorKind::OutOfMemory => TreeFault::Memory,
-        ErrorKind::NotFound => TreeFault::Missing,
+        ErrorKind::NotFound | ErrorKind::NotADirectory | ErrorKind::IsADirectory => {
+            TreeFault::Missing
+        }
         _ => TreeFault::Failed,
     }
 }

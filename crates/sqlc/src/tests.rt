@@ -982,7 +982,14 @@ fn the_disk_keeps_what_is_put(rt: HostRuntime) -> Result<(), Fail> {
     assert!(rt; matches!(&inner, Ok(Listing::Folder(names)) if names.len() == 1));
     assert!(rt; matches!(tree.list(alloc, "kept/inner/a.txt"), Ok(Listing::File)));
     assert!(rt; matches!(tree.list(alloc, "kept/nothing"), Err(TreeFault::Missing)));
-    assert_eq!(rt; tree.missings(), 1);
+    assert!(rt;
+        matches!(
+            tree.list(alloc, "kept/inner/a.txt/b"),
+            Err(TreeFault::Missing)
+        )
+    );
+    assert!(rt; matches!(tree.read(alloc, "kept/inner", 3), Err(TreeFault::Missing)));
+    assert_eq!(rt; tree.missings(), 3);
     assert_eq!(rt; tree.faults(), 0);
     assert_eq!(rt; out.faults(), 0);
     Ok(())

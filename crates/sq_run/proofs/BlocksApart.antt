@@ -22,7 +22,7 @@ use Rattle.sq_run.specs.Outs.{all_entries, same_out_after}
 use Rattle.sq_run.specs.Paths.{folder_of}
 use Rattle.sq_run.proofs.Models.{either_none}
 use Rattle.sq_run.proofs.FileNames.{IsApart, is_slash, no_slash, placed_apart}
-use Rattle.sq_run.proofs.Plans.{FromProject, block_from, entry_from, entries_none, written_ok, written_none}
+use Rattle.sq_run.proofs.Plans.{FromPlan, block_from, entry_from, entries_none, written_ok, written_none}
 use Rattle.sq_run.proofs.FoldersApart.{LiesIn, LiesElsewhere, folder_placed, lies_elsewhere, apart_together}
 use Rattle.sq_run.proofs.OkSteps.{and_also_ok}
 use Rattle.sq_run.proofs.Says.{file_apart}
@@ -81,7 +81,7 @@ seen_none seen entry entries none = elim (cases_Bool (list_any (λ path. bytes_e
 ]
 
 module _ (path : List ℕ) (held : List File) where
-  own_apart : (block : Block) (plan : Plan) (output : Output) (own : List File) → plan_in block ≡ Some plan → plan.output ≡ Some output → FromProject path plan held own
+  own_apart : (block : Block) (plan : Plan) (output : Output) (own : List File) → plan_in block ≡ Some plan → plan.output ≡ Some output → FromPlan path plan held own
       → AllByRecursion (LiesIn output.path) own × (has_equal (map (λ (f : File). f.path) own) ≡ false)
   own_apart block plan output own planned has from =
       let declaration = declared plan.queries from.query.query from.query.found in
@@ -91,7 +91,7 @@ module _ (path : List ℕ) (held : List File) where
         laid_apart output.path output.package_name (models_of from.contents) plan.queries from.query.query from.query.found (file_apart (models_of from.contents) declaration laid.0),
       )
 
-  pub own_none : (plan : Plan) (own : List File) → plan.output ≡ None → FromProject path plan held own → own ≡ []
+  pub own_none : (plan : Plan) (own : List File) → plan.output ≡ None → FromPlan path plan held own → own ≡ []
   own_none plan own has from =
       written_none path (models_of from.contents) (declared plan.queries from.query.query from.query.found ∷ []) own
       (subst (λ (o : Option Output). written path o (models_of from.contents) (declared plan.queries from.query.query from.query.found ∷ []) ≡ Ok own) has from.query.laid_out)
@@ -103,7 +103,7 @@ module _ (path : List ℕ) (held : List File) where
       let from = block_from path block held parts.0 parts.2 in
       subst (AreApart seen) (sym parts.4) (by_output parts.0 parts.1 from.plan from.planned from.from (λ more h. blocks_apart blocks more parts.1 parts.3 h) from.plan.output refl)
     where
-      by_output : (own later : List File) (plan : Plan) → plan_in block ≡ Some plan → FromProject path plan held own → ((more : List (List ℕ)) → same_out_after more (all_entries blocks) ≡ None → AreApart more later)
+      by_output : (own later : List File) (plan : Plan) → plan_in block ≡ Some plan → FromPlan path plan held own → ((more : List (List ℕ)) → same_out_after more (all_entries blocks) ≡ None → AreApart more later)
           → (output : Option Output) → plan.output ≡ output → AreApart seen (own ++ later)
       by_output own later plan planned from next None has =
           let entries = entries_none block plan planned has in

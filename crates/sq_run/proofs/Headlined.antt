@@ -21,7 +21,7 @@ use Rattle.sq_run.specs.Headline.{IsWritten, IsPutFor, ArePut, IsHeadline, Headl
 use Rattle.sq_run.specs.Project.{plan_in, models_of, declared, placed, written, block_files, all_files, asked_by, task_asked}
 use Rattle.sq_run.specs.Run.{Outside, Cause, Kept, HoldsAll, files_asked}
 use Rattle.sq_run.proofs.Kept.{told_then}
-use Rattle.sq_run.proofs.Plans.{FromProject, accepted_from, block_from, entry_from, outs_apart, written_ok}
+use Rattle.sq_run.proofs.Plans.{FromPlan, accepted_from, block_from, entry_from, outs_apart, written_ok}
 use Rattle.sq_run.proofs.Origins.{schema_from, query_from}
 use Rattle.sq_run.proofs.FoldersApart.{IsHeldAt, all_held}
 use Rattle.sq_run.proofs.OkSteps.{and_also_ok}
@@ -44,7 +44,7 @@ all_back P (x ∷ xs) ys all = all_back P xs ys all.1
 
 module _ (laws : Laws) (path : List ℕ) (held now : List File) where
   -- what was put for a plan with an output
-  written_for : (block : Block) (plan : Plan) (output : Output) (put : List File) → plan_in block ≡ Some plan → plan.output ≡ Some output → FromProject path plan held put → AllByRecursion (IsHeldAt now) put → IsWritten plan output held now put
+  written_for : (block : Block) (plan : Plan) (output : Output) (put : List File) → plan_in block ≡ Some plan → plan.output ≡ Some output → FromPlan path plan held put → AllByRecursion (IsHeldAt now) put → IsWritten plan output held now put
   written_for block plan output put planned has from all =
       let schema = schema_from plan.schema from.schema from.contents from.replays in
       let text = query_from from.query.tokens from.query.query from.query.annotated in
@@ -71,7 +71,7 @@ module _ (laws : Laws) (path : List ℕ) (held now : List File) where
       }
 
   -- by whether a plan has an output
-  plan_put : (block : Block) (plan : Plan) (put : List File) → plan_in block ≡ Some plan → FromProject path plan held put → AllByRecursion (IsHeldAt now) put → (output : Option Output) → plan.output ≡ output → IsPutFor plan output held now put
+  plan_put : (block : Block) (plan : Plan) (put : List File) → plan_in block ≡ Some plan → FromPlan path plan held put → AllByRecursion (IsHeldAt now) put → (output : Option Output) → plan.output ≡ output → IsPutFor plan output held now put
   plan_put block plan put planned from all None has = own_none path held plan put has from
   plan_put block plan put planned from all (Some output) has = written_for block plan output put planned has from all
 

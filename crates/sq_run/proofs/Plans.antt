@@ -36,7 +36,7 @@ use Rattle.sq_run.specs.Outs.{all_entries, same_out, other_writer}
 use Rattle.sq_run.specs.Shape.{bad_key}
 use Rattle.sq_run.specs.Paths.{folder_of}
 use Rattle.sq_run.specs.Judged.{judged}
-use Rattle.sq_run.specs.Project.{checked, whole_file, wanted_file, source, only, output_by, output_in, plan_in, configured_by, configured, configuration_at, catalogue_with, catalogue_by, catalogue_of, with_tokens, models_of, declared, output_files, written, project_by, project_with, judged_bytes, project_files, planned_files, block_files, all_files, requested}
+use Rattle.sq_run.specs.Project.{checked, whole_file, wanted_file, source, only, output_by, output_in, plan_in, configured_by, configured, configuration_at, catalogue_with, catalogue_by, catalogue_of, with_tokens, models_of, declared, output_files, written, files_by, files_with, judged_bytes, plan_files, planned_files, block_files, all_files, requested}
 use Rattle.sq_run.specs.Query.{query_of}
 use Rattle.sq_run.proofs.OkSteps.{bind_some, and_then_ok}
 
@@ -74,49 +74,49 @@ pub written_none : (path : List ℕ) (models : List ModelDecl) (queries : List Q
 written_none path models queries files is = sym (same_answer _ _ _ refl is)
 
 -- a judged query of an accepted project
-pub record FromQuery (path : List ℕ) (project : Plan) (contents : Contents) (source : List ℕ) (files : List File) : Type 0 where
+pub record FromQuery (path : List ℕ) (plan : Plan) (contents : Contents) (source : List ℕ) (files : List File) : Type 0 where
   pub tokens : List Token
   pub listed : token_list 1 source ≡ Ok tokens
   pub query : Query
   pub annotated : query_of tokens ≡ Some query
   pub found : Judged
   pub judges : judged contents query.select ≡ Ok found
-  pub laid_out : written path project.output (models_of contents) (declared project.queries query found ∷ []) ≡ Ok files
+  pub laid_out : written path plan.output (models_of contents) (declared plan.queries query found ∷ []) ≡ Ok files
 
-query_ok : (path : List ℕ) (project : Plan) (contents : Contents) (source : List ℕ) (files : List File) → judged_bytes path project contents source ≡ Ok files → FromQuery path project contents source files
-query_ok path project contents source files is = by_tokens (token_list 1 source) refl is
+query_ok : (path : List ℕ) (plan : Plan) (contents : Contents) (source : List ℕ) (files : List File) → judged_bytes path plan contents source ≡ Ok files → FromQuery path plan contents source files
+query_ok path plan contents source files is = by_tokens (token_list 1 source) refl is
   where
-    by_judged : (tokens : List Token) → token_list 1 source ≡ Ok tokens → (query : Query) → query_of tokens ≡ Some query → (answer : Result Judged Refusal) → judged contents query.select ≡ answer → project_by path project contents query answer ≡ Ok files → FromQuery path project contents source files
+    by_judged : (tokens : List Token) → token_list 1 source ≡ Ok tokens → (query : Query) → query_of tokens ≡ Some query → (answer : Result Judged Refusal) → judged contents query.select ≡ answer → files_by path plan contents query answer ≡ Ok files → FromQuery path plan contents source files
     by_judged tokens listed query there (Err refusal) judges is = absurd (cc is)
     by_judged tokens listed query there (Ok found) judges is = record { tokens = tokens; listed = listed; query = query; annotated = there; found = found; judges = judges; laid_out = is }
 
-    by_query : (tokens : List Token) → token_list 1 source ≡ Ok tokens → (found : Option Query) → query_of tokens ≡ found → project_with path project contents found ≡ Ok files → FromQuery path project contents source files
+    by_query : (tokens : List Token) → token_list 1 source ≡ Ok tokens → (found : Option Query) → query_of tokens ≡ found → files_with path plan contents found ≡ Ok files → FromQuery path plan contents source files
     by_query tokens listed None there is = absurd (cc is)
     by_query tokens listed (Some query) there is = by_judged tokens listed query there (judged contents query.select) refl is
 
-    by_tokens : (list : Result (List Token) Refusal) → token_list 1 source ≡ list → with_tokens project.queries list (λ tokens. project_with path project contents (query_of tokens)) ≡ Ok files → FromQuery path project contents source files
+    by_tokens : (list : Result (List Token) Refusal) → token_list 1 source ≡ list → with_tokens plan.queries list (λ tokens. files_with path plan contents (query_of tokens)) ≡ Ok files → FromQuery path plan contents source files
     by_tokens (Err refusal) listed is = absurd (cc is)
     by_tokens (Ok tokens) listed is = by_query tokens listed (query_of tokens) refl is
 
 -- what an accepted project was made from
-pub record FromProject (path : List ℕ) (project : Plan) (held files : List File) : Type 0 where
+pub record FromPlan (path : List ℕ) (plan : Plan) (held files : List File) : Type 0 where
   pub schema : List ℕ
-  pub schema_held : bytes_at held project.schema ≡ Some schema
+  pub schema_held : bytes_at held plan.schema ≡ Some schema
   pub schema_fits : length schema ≤ LIMIT
   pub contents : Contents
-  pub replays : catalogue_of project.schema schema ≡ Ok contents
+  pub replays : catalogue_of plan.schema schema ≡ Ok contents
   pub source : List ℕ
-  pub source_held : bytes_at held project.queries ≡ Some source
+  pub source_held : bytes_at held plan.queries ≡ Some source
   pub source_fits : length source ≤ LIMIT
-  pub query : FromQuery path project contents source files
+  pub query : FromQuery path plan contents source files
 
-pub project_from : (path : List ℕ) (project : Plan) (held files : List File) → (project_files path project held).answer ≡ Some (Ok files) → FromProject path project held files
-project_from path project held files is =
-    let b = and_then_ok (source project.schema held) _ files is in
-    let c = and_then_ok (nothing_asked (catalogue_of project.schema b.0)) _ files b.2 in
-    let d = and_then_ok (source project.queries held) _ files c.2 in
-    let schema = source_ok project.schema b.0 held b.1 in
-    let query = source_ok project.queries d.0 held d.1 in
+pub plan_from : (path : List ℕ) (plan : Plan) (held files : List File) → (plan_files path plan held).answer ≡ Some (Ok files) → FromPlan path plan held files
+plan_from path plan held files is =
+    let b = and_then_ok (source plan.schema held) _ files is in
+    let c = and_then_ok (nothing_asked (catalogue_of plan.schema b.0)) _ files b.2 in
+    let d = and_then_ok (source plan.queries held) _ files c.2 in
+    let schema = source_ok plan.schema b.0 held b.1 in
+    let query = source_ok plan.queries d.0 held d.1 in
     record {
       schema = b.0;
       schema_held = schema.0;
@@ -126,7 +126,7 @@ project_from path project held files is =
       source = d.0;
       source_held = query.0;
       source_fits = query.1;
-      query = query_ok path project c.0 d.0 files (same_Some _ _ d.2);
+      query = query_ok path plan c.0 d.0 files (same_Some _ _ d.2);
     }
 
 -- what an accepted run was made from
@@ -155,14 +155,14 @@ accepted_from path held files is =
 pub record FromBlock (path : List ℕ) (block : Block) (held files : List File) : Type 0 where
   pub plan : Plan
   pub planned : plan_in block ≡ Some plan
-  pub from : FromProject path plan held files
+  pub from : FromPlan path plan held files
 
 pub block_from : (path : List ℕ) (block : Block) (held files : List File) → (block_files path block held).answer ≡ Some (Ok files) → FromBlock path block held files
 block_from path block held files is = by_plan (plan_in block) refl is
   where
     by_plan : (found : Option Plan) → plan_in block ≡ found → (planned_files path found held).answer ≡ Some (Ok files) → FromBlock path block held files
     by_plan None there is = absurd (cc (same_Some _ _ is))
-    by_plan (Some plan) there is = record { plan = plan; planned = there; from = project_from path plan held files is }
+    by_plan (Some plan) there is = record { plan = plan; planned = there; from = plan_from path plan held files is }
 
 -- the output of an entry, of which it is the only one
 pub record FromEntry (entries : List Entry) (output : Output) : Type 0 where

@@ -177,18 +177,18 @@ written path None models queries = Ok []
 written path (Some output) models queries = if clash models queries then Err (not_yet Configuration path ∷ []) else Ok (output_files output models queries)
 
 -- the files of a judged query
-abbrev pub project_by : List ℕ → Plan → Contents → Query → Result Judged Refusal → Result (List File) (List Finding)
-project_by path project contents query (Ok judged) = written path project.output (models_of contents) (declared project.queries query judged ∷ [])
-project_by path project contents query (Err refusal) = Err (InSource project.queries refusal ∷ [])
+abbrev pub files_by : List ℕ → Plan → Contents → Query → Result Judged Refusal → Result (List File) (List Finding)
+files_by path plan contents query (Ok judged) = written path plan.output (models_of contents) (declared plan.queries query judged ∷ [])
+files_by path plan contents query (Err refusal) = Err (InSource plan.queries refusal ∷ [])
 
 -- the files of the query that a file has
-abbrev pub project_with : List ℕ → Plan → Contents → Option Query → Result (List File) (List Finding)
-project_with path project contents (Some query) = project_by path project contents query (judged contents query.select)
-project_with path project contents None = Err (not_yet Source project.queries ∷ [])
+abbrev pub files_with : List ℕ → Plan → Contents → Option Query → Result (List File) (List Finding)
+files_with path plan contents (Some query) = files_by path plan contents query (judged contents query.select)
+files_with path plan contents None = Err (not_yet Source plan.queries ∷ [])
 
 -- what the query's file is judged to be, over the catalogue
 abbrev pub judged_bytes : List ℕ → Plan → Contents → List ℕ → Result (List File) (List Finding)
-judged_bytes path project contents bytes = with_tokens project.queries (token_list 1 bytes) (λ tokens. project_with path project contents (query_of tokens))
+judged_bytes path plan contents bytes = with_tokens plan.queries (token_list 1 bytes) (λ tokens. files_with path plan contents (query_of tokens))
 
 -- WHAT A RUN ASKS
 
@@ -197,16 +197,16 @@ abbrev pub configuration_at : List ℕ → List File → Asked (List Block)
 configuration_at path files = and_then (whole_file Configuration path files) (λ bytes. nothing_asked (configured path bytes))
 
 -- reads the schema and the query of a plan
-abbrev pub project_files : List ℕ → Plan → List File → Asked (List File)
-project_files path project files =
-    and_then (source project.schema files) (λ schema.
-    and_then (nothing_asked (catalogue_of project.schema schema)) (λ contents.
-    and_then (source project.queries files) (λ query.
-    nothing_asked (judged_bytes path project contents query))))
+abbrev pub plan_files : List ℕ → Plan → List File → Asked (List File)
+plan_files path plan files =
+    and_then (source plan.schema files) (λ schema.
+    and_then (nothing_asked (catalogue_of plan.schema schema)) (λ contents.
+    and_then (source plan.queries files) (λ query.
+    nothing_asked (judged_bytes path plan contents query))))
 
 -- of a block's plan, unless the block asks for more than is built
 abbrev pub planned_files : List ℕ → Option Plan → List File → Asked (List File)
-planned_files path (Some plan) files = project_files path plan files
+planned_files path (Some plan) files = plan_files path plan files
 planned_files path None files = nothing_asked (Err (not_yet Configuration path ∷ []))
 
 -- reads a block and judges it

@@ -1,8 +1,8 @@
-//! The blocks of a configuration are read and judged, one after the other.
+//! The blocks of a configuration are read and judged, one after the other. `configuration` is its path.
 
 ghost use Rattle.std.specs.Prelude.{◌≡◌, ◌≤◌, length, Some, IfOk};
 ghost use Rattle.sq_run.specs.Asked.{Follows, Judges};
-ghost use Rattle.sq_run.specs.Project.{source, project_with, judged_bytes, project_files, block_files, all_files};
+ghost use Rattle.sq_run.specs.Project.{source, files_with, judged_bytes, plan_files, block_files, all_files};
 ghost use Rattle.sq_run.specs.Query.{query_of};
 ghost use Rattle.sq_run.specs.declared.read.TheConstants.{LIMIT};
 
@@ -25,12 +25,12 @@ use std::alloc::Global;
 /// The files of a query.
 fn write_query(
     alloc: Global,
-    path: &str,
+    configuration: &str,
     plan: &Plan,
     catalogue: &Catalogue,
     query: Query,
 ) -> Result<List<File>, Halt>
-    ensures { Judges (project_with path.now plan.now catalogue.now (Some query)) result }
+    ensures { Judges (files_with configuration.now plan.now catalogue.now (Some query)) result }
 {
     let queries = plan.queries.as_str();
     let judged = match judge(alloc, catalogue, &query.select) {
@@ -41,7 +41,7 @@ fn write_query(
     match declarations(alloc, catalogue, queries, query, judged) {
         Ok((models, queries)) => write(
             alloc,
-            path,
+            configuration,
             &plan.output,
             models.as_slice(),
             queries.as_slice(),
@@ -53,15 +53,15 @@ fn write_query(
 /// Judges the tokens of the query's file over the catalogue.
 fn judge_tokens(
     alloc: Global,
-    path: &str,
+    configuration: &str,
     plan: &Plan,
     catalogue: &Catalogue,
     tokens: &[Token],
 ) -> Result<List<File>, Halt>
-    ensures { Judges (project_with path.now plan.now catalogue.now (query_of tokens.now)) result }
+    ensures { Judges (files_with configuration.now plan.now catalogue.now (query_of tokens.now)) result }
 {
     match read_query(alloc, tokens) {
-        Ok(query) => write_query(alloc, path, plan, catalogue, query),
+        Ok(query) => write_query(alloc, configuration, plan, catalogue, query),
         Err(NoForm::Other) => Err(refuse(alloc, Role::Source, plan.queries.as_str())),
         Err(NoForm::Memory) => Err(Halt::Memory),
     }
@@ -70,16 +70,16 @@ fn judge_tokens(
 /// Judges the query's file over the catalogue.
 fn judge_bytes(
     alloc: Global,
-    path: &str,
+    configuration: &str,
     plan: &Plan,
     catalogue: &Catalogue,
     bytes: &[u8],
 ) -> Result<List<File>, Halt>
     requires { length bytes.now ≤ LIMIT }
-    ensures { Judges (judged_bytes path.now plan.now catalogue.now bytes.now) result }
+    ensures { Judges (judged_bytes configuration.now plan.now catalogue.now bytes.now) result }
 {
     let tokens = read_tokens(alloc, plan.queries.as_str(), 1, bytes)?;
-    judge_tokens(alloc, path, plan, catalogue, tokens.as_slice())
+    judge_tokens(alloc, configuration, plan, catalogue, tokens.as_slice())
 }
 
 /// Reads the schema's file.
@@ -102,29 +102,29 @@ fn read_query_file<T: Tree>(alloc: Global, tree: &mut T, plan: &Plan) -> Result<
 fn judge_plan<T: Tree>(
     alloc: Global,
     tree: &mut T,
-    path: &str,
+    configuration: &str,
     plan: &Plan,
 ) -> Result<List<File>, Halt>
-    ensures { Follows (project_files path.now plan.now) (T.state tree.old) (T.state tree.new) result }
+    ensures { Follows (plan_files configuration.now plan.now) (T.state tree.old) (T.state tree.new) result }
 {
     let schema = read_schema_file(alloc, tree, plan)?;
     let catalogue = replay_schema(alloc, plan, schema.as_slice())?;
     let queries = read_query_file(alloc, tree, plan)?;
-    judge_bytes(alloc, path, plan, &catalogue, queries.as_slice())
+    judge_bytes(alloc, configuration, plan, &catalogue, queries.as_slice())
 }
 
 /// Reads a block and judges it.
 fn judge_block<T: Tree>(
     alloc: Global,
     tree: &mut T,
-    path: &str,
+    configuration: &str,
     block: &Block,
 ) -> Result<List<File>, Halt>
-    ensures { Follows (block_files path.now block.now) (T.state tree.old) (T.state tree.new) result }
+    ensures { Follows (block_files configuration.now block.now) (T.state tree.old) (T.state tree.new) result }
 {
     match plan_in(alloc, block) {
-        Ok(plan) => judge_plan(alloc, tree, path, &plan),
-        Err(NoForm::Other) => Err(refuse(alloc, Role::Configuration, path)),
+        Ok(plan) => judge_plan(alloc, tree, configuration, &plan),
+        Err(NoForm::Other) => Err(refuse(alloc, Role::Configuration, configuration)),
         Err(NoForm::Memory) => Err(Halt::Memory),
     }
 }
@@ -133,14 +133,14 @@ fn judge_block<T: Tree>(
 fn judge_blocks<T: Tree>(
     alloc: Global,
     tree: &mut T,
-    path: &str,
+    configuration: &str,
     blocks: &[Block],
 ) -> Result<List<File>, Halt>
-    ensures { Follows (all_files path.now blocks.now) (T.state tree.old) (T.state tree.new) result }
+    ensures { Follows (all_files configuration.now blocks.now) (T.state tree.old) (T.state tree.new) result }
 {
     let mut so_far = Ok(List::new(alloc));
     for block in blocks {
-        so_far = join(so_far, judge_block(alloc, tree, path, block))?;
+        so_far = join(so_far, judge_block(alloc, tree, configuration, block))?;
     }
     ending(so_far)
 }
@@ -149,10 +149,10 @@ fn judge_blocks<T: Tree>(
 pub fn judge_configured<T: Tree>(
     alloc: Global,
     tree: &mut T,
-    path: &str,
+    configuration: &str,
     blocks: &List<Block>,
 ) -> Result<List<File>, Halt>
-    ensures { Follows (all_files path.now blocks.now) (T.state tree.old) (T.state tree.new) result }
+    ensures { Follows (all_files configuration.now blocks.now) (T.state tree.old) (T.state tree.new) result }
 {
-    judge_blocks(alloc, tree, path, blocks.as_slice())
+    judge_blocks(alloc, tree, configuration, blocks.as_slice())
 }

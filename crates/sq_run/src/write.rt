@@ -50,12 +50,12 @@ fn output_files(
 /// The files of these declarations where there is an output, unless two identifiers of one name space are equal.
 pub fn write(
     alloc: Global,
-    path: &str,
+    configuration: &str,
     output: &Option<Output>,
     models: &[ModelDecl],
     queries: &[QuerySig],
 ) -> Result<List<File>, Halt>
-    ensures { Judges (written path.now output.now models.now queries.now) result }
+    ensures { Judges (written configuration.now output.now models.now queries.now) result }
 {
     let Some(output) = output else {
         return Ok(List::new(alloc));
@@ -65,7 +65,7 @@ pub fn write(
             Ok(files) => Ok(files),
             Err(_) => Err(Halt::Memory),
         },
-        Ok(true) => Err(refuse(alloc, Role::Configuration, path)),
+        Ok(true) => Err(refuse(alloc, Role::Configuration, configuration)),
         Err(_) => Err(Halt::Memory),
     }
 }

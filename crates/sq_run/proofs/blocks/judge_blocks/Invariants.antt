@@ -7,4 +7,4 @@ use Rattle.sq_run.specs.Project.{all_files}
 use Rattle.sq_run.proofs.blocks.judge_blocks.Given as goal
 
 abbrev pub invariant-loop-block : goal.invariant-loop-block
-invariant-loop-block g l = (new : TreeState) (r : Result (List File) Halt) → Follows (all_files l.path (drop l.block-index l.blocks)) (g.T.Tree.state l.tree) new r → Follows (all_files l.path l.blocks) (g.T.Tree.state l.fn.tree) new (ended_with l.so_far r)
+invariant-loop-block g l = (new : TreeState) (r : Result (List File) Halt) → Follows (all_files l.configuration (drop l.block-index l.blocks)) (g.T.Tree.state l.tree) new r → Follows (all_files l.configuration l.blocks) (g.T.Tree.state l.fn.tree) new (ended_with l.so_far r)

@@ -25,4 +25,4 @@ returns g c =
     followed _ _ _ _ _ _ _ c.in_ok-schema.ensures.follows
     (followed _ _ _ _ _ _ _ (judged_follows (catalogue_of c.args.plan.now.schema c.in_ok-schema.schema) _ (Ok c.in_ok-catalogue.catalogue) (rw (← c.as_slice.ensures) c.in_ok-catalogue.ensures))
     (followed _ _ _ _ _ _ _ c.in_ok-queries.ensures.follows
-    (judged_follows (judged_bytes c.args.path.now c.args.plan.now c.in_ok-catalogue.catalogue c.in_ok-queries.queries) _ c.judge_bytes.result (rw (← c.as_slice-2.ensures) c.judge_bytes.ensures))))
+    (judged_follows (judged_bytes c.args.configuration.now c.args.plan.now c.in_ok-catalogue.catalogue c.in_ok-queries.queries) _ c.judge_bytes.result (rw (← c.as_slice-2.ensures) c.judge_bytes.ensures))))

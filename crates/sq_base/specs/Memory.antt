@@ -20,3 +20,14 @@ out_state files calls = record { files = Some files; calls = Some calls.made; fa
 
 abbrev pub sink_state : List ℕ → CallLog → SinkState
 sink_state text calls = record { text = Some text; calls = Some calls.made; faults = calls.faults }
+
+-- where no call fails
+
+abbrev pub still_tree_state : List File → ℕ → ℕ → TreeState
+still_tree_state files calls missings = record { files = Some files; calls = Some calls; faults = 0; missings = missings }
+
+abbrev pub still_out_state : List File → ℕ → OutState
+still_out_state files calls = record { files = Some files; calls = Some calls; faults = 0 }
+
+abbrev pub still_sink_state : List ℕ → ℕ → SinkState
+still_sink_state text calls = record { text = Some text; calls = Some calls; faults = 0 }

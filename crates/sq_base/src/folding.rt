@@ -6,7 +6,7 @@ use std::alloc::{AllocError, Global};
 use std::str::from_utf8;
 
 /// The longest front of whole characters that has at most 63 bytes.
-fn whole_front(text: &str) -> &str
+pub fn whole_front(text: &str) -> &str
     ensures { result.now ≡ whole_front 63 text.now }
 {
     let bytes = text.as_bytes();

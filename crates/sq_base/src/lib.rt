@@ -18,6 +18,9 @@ mod out;
 mod place;
 mod refusal;
 mod sink;
+mod still_out;
+mod still_sink;
+mod still_tree;
 #[cfg(test)]
 mod tests;
 mod tree;
@@ -28,7 +31,7 @@ pub use categories::{category, is_base, preferred};
 pub use constant::constant_type;
 pub use conversion::{Cast, Category};
 pub use file::File;
-pub use folding::fold;
+pub use folding::{fold, whole_front};
 pub use list::List;
 pub use memory_out::MemoryOut;
 pub use memory_sink::MemorySink;
@@ -38,6 +41,9 @@ pub use out::{Out, OutFault};
 pub use place::Place;
 pub use refusal::{Fault, Refusal};
 pub use sink::{Sink, SinkFault};
+pub use still_out::StillOut;
+pub use still_sink::StillSink;
+pub use still_tree::StillTree;
 pub use tree::{Listing, Tree, TreeFault};
 pub use types::{
     CIDR, CITEXT, HSTORE, INET, LTREE, MACADDR, MONEY, POINT, PgType, Scalar, TSVECTOR, XML,

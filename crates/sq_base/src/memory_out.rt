@@ -84,7 +84,7 @@ impl Out for MemoryOut {
 }
 
 // Puts a file with these bytes.
-fn put_new(
+pub(crate) fn put_new(
     alloc: Global,
     files: &mut List<File>,
     path: &str,

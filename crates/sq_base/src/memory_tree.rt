@@ -37,7 +37,7 @@ impl MemoryTree {
 }
 
 // The first file at a path.
-fn held<'a>(files: &'a [File], path: &str) -> Option<&'a File>
+pub(crate) fn held<'a>(files: &'a [File], path: &str) -> Option<&'a File>
     ensures { MatchOption result (bytes_at files.now path.now ≡ None) (λ file. bytes_at files.now path.now ≡ Some file.now.bytes) }
 {
     for file in files {
@@ -111,7 +111,11 @@ fn any_begins(files: &[File], start: &[u8]) -> bool
 }
 
 // What stands at a path.
-fn standing(alloc: Global, files: &[File], path: &str) -> Result<Option<Listing>, AllocError>
+pub(crate) fn standing(
+    alloc: Global,
+    files: &[File],
+    path: &str,
+) -> Result<Option<Listing>, AllocError>
     ensures { IfOk result (λ found. MatchOption found (IsNowhere files.now path.now) (IsListing files.now path.now)) }
 {
     if held(files, path).is_some() {
@@ -126,7 +130,7 @@ fn standing(alloc: Global, files: &[File], path: &str) -> Result<Option<Listing>
 }
 
 // The first bytes of a text.
-fn front(bytes: &[u8], limit: usize) -> &[u8]
+pub(crate) fn front(bytes: &[u8], limit: usize) -> &[u8]
     requires { limit < 2 ^ 32 }
     ensures { result.now ≡ take (limit + 1) bytes.now }
 {

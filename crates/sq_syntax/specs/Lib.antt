@@ -1,4 +1,10 @@
 pub mod Bytes
 pub mod Classes
+pub mod ExpressionPieces
+pub mod Facts
+pub mod Grammar
 pub mod Items
+pub mod Pieces
+pub mod QueryPieces
+pub mod Symbols
 pub mod Tokens

@@ -1,0 +1,25 @@
+//! What holds of the grammar and of its parsers.
+ghost use Rattle.std.specs.Prelude.{◌≡◌, ◌≤◌, ◌↔◌, ℕ, suc, List, Some};
+ghost use Rattle.sq_syntax.specs.declared.query.Query.{Query};
+ghost use Rattle.sq_syntax.specs.declared.token.Token.{Token};
+ghost use Rattle.sq_syntax.specs.Grammar.{nesting_depth, IsExpression, IsQuery};
+ghost use Rattle.sq_grammar.specs.Levels.{Expr};
+ghost use Rattle.sq_grammar.specs.Whole.{expressions, queries, whole};
+
+/// Tokens spell one expression at most.
+#[tactic(auto, using(crate::proofs::OneTree::one_expression))]
+pub fn one_expression()
+    ensures { (tokens : List Token) → (x : Expr) → (y : Expr) → IsExpression tokens x → IsExpression tokens y → x ≡ y }
+{}
+
+/// Tokens spell one query at most.
+#[tactic(auto, using(crate::proofs::OneTree::one_query))]
+pub fn one_query()
+    ensures { (tokens : List Token) → (x : Query) → (y : Query) → IsQuery tokens x → IsQuery tokens y → x ≡ y }
+{}
+
+/// What is read of all tokens, to a depth above theirs, is exactly what they spell.
+pub fn read_exactly()
+    ensures as_expression { (depth : ℕ) → (tokens : List Token) → (x : Expr) → nesting_depth tokens ≤ depth → (whole (expressions (suc depth)) tokens ≡ Some x) ↔ IsExpression tokens x }
+    ensures as_query { (depth : ℕ) → (tokens : List Token) → (x : Query) → nesting_depth tokens ≤ depth → (whole (queries (suc depth)) tokens ≡ Some x) ↔ IsQuery tokens x }
+{}

@@ -6,6 +6,7 @@ use Rattle.sq_core.specs.Lines.{Text, line, empty_line}
 use Rattle.sq_core.specs.Identifiers.{model_identifier, constant_name}
 use Rattle.sq_core.specs.Signature.{fields, shown}
 use Rattle.sq_core.specs.declared.declaration.ModelDecl.{ModelDecl}
+use Rattle.sq_core.specs.declared.declaration.QueryFile.{QueryFile}
 use Rattle.sq_core.specs.declared.declaration.QuerySig.{QuerySig}
 use Rattle.sq_core.specs.declared.signature.Command.{Command}
 use Rattle.sq_core.specs.declared.signature.Command.TheVariants.{One, Many, Exec, ExecRows}
@@ -302,17 +303,20 @@ abbrev pub query_path : Text → Text
 query_path source = source ++ codes ".go"
 
 -- the file of the queries of one source
-unfoldable pub query_file : Text → List ModelDecl → Text → List QuerySig → File
-query_file package_name models source queries = record {
-  path = query_path source;
-  bytes = file_text package_name (query_imports models queries) (flat_map (query_declarations models) queries);
+unfoldable pub query_file : Text → List ModelDecl → QueryFile → File
+query_file package_name models file = record {
+  path = query_path file.source;
+  bytes = file_text package_name (query_imports models file.queries) (flat_map (query_declarations models) file.queries);
 }
 
--- queries of one source have one file; none have none
-abbrev pub query_files : Text → List ModelDecl → List QuerySig → List File
-query_files package_name models [] = []
-query_files package_name models (query ∷ queries) = query_file package_name models query.source (query ∷ queries) ∷ []
+-- a file for each source
+abbrev pub query_files : Text → List ModelDecl → List QueryFile → List File
+query_files package_name models files = map (query_file package_name models) files
 
--- the files of a package: db.go, models.go, and the file of the queries
-abbrev pub layout : Text → List ModelDecl → List QuerySig → List File
-layout package_name models queries = db_file package_name ∷ models_file package_name models ∷ query_files package_name models queries
+-- the queries of all sources
+abbrev pub queries_of : List QueryFile → List QuerySig
+queries_of files = flat_map (λ (file : QueryFile). file.queries) files
+
+-- the files of a package: db.go, models.go, and the files of the queries
+abbrev pub layout : Text → List ModelDecl → List QueryFile → List File
+layout package_name models files = db_file package_name ∷ models_file package_name models ∷ query_files package_name models files

@@ -10,10 +10,16 @@ pub struct ModelDecl {
     pub columns: List<Output>,
 }
 
-/// A query with the name of its file, and the table whose columns are exactly its own, where there is one.
+/// A query, and the table whose columns are exactly its own, where there is one.
 #[derive(Debug, Drop)]
 pub struct QuerySig {
-    pub source: Name,
     pub signature: Signature,
     pub model: Option<u32>,
+}
+
+/// The queries of one source file, one or more, with the name of the file.
+#[derive(Debug, Drop)]
+pub struct QueryFile {
+    pub source: Name,
+    pub queries: List<QuerySig>,
 }

@@ -12,7 +12,7 @@ mod signature;
 #[cfg(test)]
 mod tests;
 
-pub use declaration::{ModelDecl, QuerySig};
+pub use declaration::{ModelDecl, QueryFile, QuerySig};
 pub use form::{go_form, is_weak_in_go};
 pub use identifier::{constant_name, model_identifier, numbered, package_name, pascal};
 pub use laws::{

@@ -2,13 +2,13 @@
 
 ghost use Rattle.std.specs.Prelude.{◌≡◌, ◌++◌, ◌∷◌, [], IfOk, OnOk, map, flat_map, bytes_eq};
 ghost use Rattle.std.specs.List.{list_any};
-ghost use Rattle.sq_core.specs.Layout.{model_name};
-ghost use Rattle.sq_core.specs.Names.{clash, file_names, has_equal, methods, query_constant, query_row, top_level};
+ghost use Rattle.sq_core.specs.Layout.{model_name, queries_of, query_path};
+ghost use Rattle.sq_core.specs.Names.{clash, file_names, has_equal, methods, query_row, query_top, top_level};
 
 use crate::files::query_path;
 use crate::row::{has_own_struct, model_of, row_name};
 use sq_base::List;
-use sq_core::{ModelDecl, QuerySig, constant_name, model_identifier, shown};
+use sq_core::{ModelDecl, QueryFile, QuerySig, constant_name, model_identifier, shown};
 use std::alloc::{AllocError, Global};
 
 // Whether a name is one of these.
@@ -57,20 +57,6 @@ fn push_model_names(
     Ok(())
 }
 
-// Appends the constants of queries.
-fn push_constants(
-    alloc: Global,
-    names: &mut List<List<u8>>,
-    queries: &[QuerySig],
-) -> Result<(), AllocError>
-    ensures { OnOk result (names.new ≡ names.old ++ map query_constant queries.now) }
-{
-    for query in queries {
-        names.push(constant_name(alloc, &query.signature.name)?)?;
-    }
-    Ok(())
-}
-
 // Appends the struct of a query's own rows, where it has one.
 fn push_query_row(
     alloc: Global,
@@ -88,17 +74,45 @@ fn push_query_row(
     names.push(row_name(alloc, &shown)?)
 }
 
-// Appends the structs of the queries' own rows.
-fn push_query_rows(
+// Appends what a query declares at the top level.
+fn push_query_top(
+    alloc: Global,
+    names: &mut List<List<u8>>,
+    models: &[ModelDecl],
+    query: &QuerySig,
+) -> Result<(), AllocError>
+    ensures { OnOk result (names.new ≡ names.old ++ query_top models.now query.now) }
+{
+    names.push(constant_name(alloc, &query.signature.name)?)?;
+    push_query_row(alloc, names, models, query)
+}
+
+// Appends what the queries of a file declare at the top level.
+fn push_file_top(
     alloc: Global,
     names: &mut List<List<u8>>,
     models: &[ModelDecl],
     queries: &[QuerySig],
 ) -> Result<(), AllocError>
-    ensures { OnOk result (names.new ≡ names.old ++ flat_map (query_row models.now) queries.now) }
+    ensures { OnOk result (names.new ≡ names.old ++ flat_map (query_top models.now) queries.now) }
 {
     for query in queries {
-        push_query_row(alloc, names, models, query)?;
+        push_query_top(alloc, names, models, query)?;
+    }
+    Ok(())
+}
+
+// Appends what the queries of all files declare at the top level.
+fn push_queries_top(
+    alloc: Global,
+    names: &mut List<List<u8>>,
+    models: &[ModelDecl],
+    files: &[QueryFile],
+) -> Result<(), AllocError>
+    ensures { OnOk result (names.new ≡ names.old ++ flat_map (query_top models.now) (queries_of files.now)) }
+{
+    for file in files {
+        push_file_top(alloc, names, models, file.queries.as_slice())?;
     }
     Ok(())
 }
@@ -107,17 +121,16 @@ fn push_query_rows(
 fn top_level(
     alloc: Global,
     models: &[ModelDecl],
-    queries: &[QuerySig],
+    files: &[QueryFile],
 ) -> Result<List<List<u8>>, AllocError>
-    ensures { IfOk result (λ names. names ≡ top_level models.now queries.now) }
+    ensures { IfOk result (λ names. names ≡ top_level models.now (queries_of files.now)) }
 {
     let mut names = List::new(alloc);
     push_name(alloc, &mut names, "DBTX")?;
     push_name(alloc, &mut names, "New")?;
     push_name(alloc, &mut names, "Queries")?;
     push_model_names(alloc, &mut names, models)?;
-    push_constants(alloc, &mut names, queries)?;
-    push_query_rows(alloc, &mut names, models, queries)?;
+    push_queries_top(alloc, &mut names, models, files)?;
     Ok(names)
 }
 
@@ -135,27 +148,53 @@ fn push_query_names(
     Ok(())
 }
 
+// Appends the names of the queries of files.
+fn push_all_query_names(
+    alloc: Global,
+    names: &mut List<List<u8>>,
+    files: &[QueryFile],
+) -> Result<(), AllocError>
+    ensures { OnOk result (names.new ≡ names.old ++ map (λ query. query.signature.name) (queries_of files.now)) }
+{
+    for file in files {
+        push_query_names(alloc, names, file.queries.as_slice())?;
+    }
+    Ok(())
+}
+
 // The methods.
-fn methods(alloc: Global, queries: &[QuerySig]) -> Result<List<List<u8>>, AllocError>
-    ensures { IfOk result (λ names. names ≡ methods queries.now) }
+fn methods(alloc: Global, files: &[QueryFile]) -> Result<List<List<u8>>, AllocError>
+    ensures { IfOk result (λ names. names ≡ methods (queries_of files.now)) }
 {
     let mut names = List::new(alloc);
     push_name(alloc, &mut names, "WithTx")?;
-    push_query_names(alloc, &mut names, queries)?;
+    push_all_query_names(alloc, &mut names, files)?;
     Ok(names)
 }
 
+// Appends the names of the files of queries.
+fn push_paths(
+    alloc: Global,
+    names: &mut List<List<u8>>,
+    files: &[QueryFile],
+) -> Result<(), AllocError>
+    ensures { OnOk result (names.new ≡ names.old ++ map (λ file. query_path file.source) files.now) }
+{
+    for file in files {
+        let path = query_path(alloc, &file.source)?;
+        push_name(alloc, names, path.as_str())?;
+    }
+    Ok(())
+}
+
 // The names of the files.
-fn file_names(alloc: Global, queries: &[QuerySig]) -> Result<List<List<u8>>, AllocError>
-    ensures { IfOk result (λ names. names ≡ file_names queries.now) }
+fn file_names(alloc: Global, files: &[QueryFile]) -> Result<List<List<u8>>, AllocError>
+    ensures { IfOk result (λ names. names ≡ file_names files.now) }
 {
     let mut names = List::new(alloc);
     push_name(alloc, &mut names, "db.go")?;
     push_name(alloc, &mut names, "models.go")?;
-    if let Some(query) = queries.first() {
-        let path = query_path(alloc, &query.source)?;
-        push_name(alloc, &mut names, path.as_str())?;
-    }
+    push_paths(alloc, &mut names, files)?;
     Ok(names)
 }
 
@@ -163,12 +202,12 @@ fn file_names(alloc: Global, queries: &[QuerySig]) -> Result<List<List<u8>>, All
 pub fn go_clash(
     alloc: Global,
     models: &[ModelDecl],
-    queries: &[QuerySig],
+    files: &[QueryFile],
 ) -> Result<bool, AllocError>
-    ensures { IfOk result (λ found. found ≡ clash models.now queries.now) }
+    ensures { IfOk result (λ found. found ≡ clash models.now files.now) }
 {
-    let top = top_level(alloc, models, queries)?;
-    let methods = methods(alloc, queries)?;
-    let files = file_names(alloc, queries)?;
-    Ok(has_equal(top.as_slice()) || has_equal(methods.as_slice()) || has_equal(files.as_slice()))
+    let top = top_level(alloc, models, files)?;
+    let methods = methods(alloc, files)?;
+    let paths = file_names(alloc, files)?;
+    Ok(has_equal(top.as_slice()) || has_equal(methods.as_slice()) || has_equal(paths.as_slice()))
 }

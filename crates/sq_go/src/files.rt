@@ -7,7 +7,7 @@ use crate::body::{Body, model_body, query_body};
 use crate::database::db_file;
 use crate::line::{file_text, push_text};
 use sq_base::{File, List, Name};
-use sq_core::{ModelDecl, QuerySig};
+use sq_core::{ModelDecl, QueryFile};
 use std::alloc::{AllocError, Global};
 
 // The text of models.go.
@@ -74,46 +74,45 @@ fn query_file(
     alloc: Global,
     package_name: &str,
     models: &[ModelDecl],
-    source: &Name,
-    queries: &[QuerySig],
+    file: &QueryFile,
 ) -> Result<File, AllocError>
-    ensures { IfOk result (λ file. file ≡ query_file package_name.now models.now source.now queries.now) }
+    ensures { IfOk result (λ written. written ≡ query_file package_name.now models.now file.now) }
 {
-    let body = query_body(alloc, models, queries)?;
+    let body = query_body(alloc, models, file.queries.as_slice())?;
     Ok(File {
-        path: query_path(alloc, source)?,
+        path: query_path(alloc, &file.source)?,
         bytes: queries_text(alloc, package_name, &body)?,
     })
 }
 
-// Appends the file of queries, where there are some.
+// Appends the files of queries.
 fn push_query_files(
     alloc: Global,
-    files: &mut List<File>,
+    put: &mut List<File>,
     package_name: &str,
     models: &[ModelDecl],
-    queries: &[QuerySig],
+    files: &[QueryFile],
 ) -> Result<(), AllocError>
-    ensures { OnOk result (files.new ≡ files.old ++ query_files package_name.now models.now queries.now) }
+    ensures { OnOk result (put.new ≡ put.old ++ query_files package_name.now models.now files.now) }
 {
-    match queries.first() {
-        Some(query) => files.push(query_file(alloc, package_name, models, &query.source, queries)?),
-        None => Ok(()),
+    for file in files {
+        put.push(query_file(alloc, package_name, models, file)?)?;
     }
+    Ok(())
 }
 
-/// The files of a package: db.go, models.go, and the file of the queries, which are of one source.
+/// The files of a package: db.go, models.go, and the files of the queries.
 pub fn go_files(
     alloc: Global,
     package_name: &str,
     models: &[ModelDecl],
-    queries: &[QuerySig],
+    files: &[QueryFile],
 ) -> Result<List<File>, AllocError>
-    ensures { IfOk result (λ files. files ≡ layout package_name.now models.now queries.now) }
+    ensures { IfOk result (λ put. put ≡ layout package_name.now models.now files.now) }
 {
-    let mut files = List::new(alloc);
-    files.push(db_file(alloc, package_name)?)?;
-    files.push(models_file(alloc, package_name, models)?)?;
-    push_query_files(alloc, &mut files, package_name, models, queries)?;
-    Ok(files)
+    let mut put = List::new(alloc);
+    put.push(db_file(alloc, package_name)?)?;
+    put.push(models_file(alloc, package_name, models)?)?;
+    push_query_files(alloc, &mut put, package_name, models, files)?;
+    Ok(put)
 }

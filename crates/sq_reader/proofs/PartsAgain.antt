@@ -78,7 +78,7 @@ many_from_again {A} at write (x ∷ xs) rest (suc n) again none enough =
 abbrev pub AllSome : {A : Type 0} → (A → Text) → Type 0
 AllSome {A} write = (x : A) → 0 < length (write x)
 
-enough_bytes : {A : Type 0} (write : A → Text) (xs : List A) (rest : Text) → AllSome write → length xs ≤ length (flat_map write xs ++ rest)
+pub enough_bytes : {A : Type 0} (write : A → Text) (xs : List A) (rest : Text) → AllSome write → length xs ≤ length (flat_map write xs ++ rest)
 enough_bytes write [] rest some = omega arith
 enough_bytes write (x ∷ xs) rest some =
     let later = enough_bytes write xs rest some in

@@ -1,57 +1,51 @@
 -- The files of all blocks have different paths.
-use Rattle.std.proofs.Common.{◌≡◌, ℕ, false, List, [], ◌∷◌, ◌++◌, map, Option, None, Some, Result, Ok, refl, sym, ◌∙◌, subst, inl, inr}
+use Rattle.std.proofs.Common.{◌≡◌, ℕ, ◌+◌, false, List, [], ◌∷◌, ◌++◌, map, None, refl, sym, ◌∙◌, ap, subst, inl, inr, append_assoc}
 use Rattle.std.specs.Prelude.{codes}
-use Rattle.std.specs.List.{AllByRecursion, list_any}
+use Rattle.std.specs.List.{AllByRecursion, AllZip, list_any}
 use Rattle.std.proofs.lemmas.List.Folds.{list_any-append}
 use Rattle.std.proofs.lemmas.Bool.{cases_Bool}
 use Rattle.std.specs.Str.{bytes_eq}
-use Rattle.std.proofs.lemmas.Option.{same_Some}
 use Rattle.sq_base.specs.declared.file.File.{File}
 use Rattle.sq_core.specs.Layout as layout
-use Rattle.sq_core.specs.Names.{has_equal}
+use Rattle.sq_core.specs.Names.{has_equal, file_names}
 use Rattle.sq_core.specs.declared.declaration.ModelDecl.{ModelDecl}
+use Rattle.sq_core.specs.declared.declaration.QueryFile.{QueryFile}
 use Rattle.sq_run.specs.declared.configuration.Block.{Block}
 use Rattle.sq_run.specs.declared.configuration.Entry.{Entry}
-use Rattle.sq_run.specs.declared.halt.Finding.{Finding}
-use Rattle.sq_run.specs.declared.judge.Judged.{Judged}
-use Rattle.sq_run.specs.declared.plan.Output.{Output}
-use Rattle.sq_run.specs.declared.plan.Plan.{Plan}
-use Rattle.sq_run.specs.declared.query.Query.{Query}
-use Rattle.sq_run.specs.Project.{plan_in, models_of, file_name, declared, placed, written, block_files, all_files}
+use Rattle.sq_run.specs.declared.outputs.Output.{Output}
+use Rattle.sq_run.specs.Project.{models_of, placed, output_files, written, block_files}
 use Rattle.sq_run.specs.Outs.{all_entries, same_out_after}
 use Rattle.sq_run.specs.Paths.{folder_of}
 use Rattle.sq_run.proofs.Models.{either_none}
-use Rattle.sq_run.proofs.FileNames.{IsApart, is_slash, no_slash, placed_apart}
-use Rattle.sq_run.proofs.Plans.{FromPlan, block_from, entry_from, entries_none, written_ok, written_none}
+use Rattle.sq_run.proofs.FileNames.{is_slash, no_slash, names_differ, placed_differ}
+use Rattle.sq_run.proofs.Plans.{FromEntry, block_from, written_ok}
 use Rattle.sq_run.proofs.FoldersApart.{LiesIn, LiesElsewhere, folder_placed, lies_elsewhere, apart_together}
-use Rattle.sq_run.proofs.OkSteps.{and_also_ok}
-use Rattle.sq_run.proofs.Says.{file_apart}
+use Rattle.sq_run.proofs.OkSteps.{Gathered, EachOk, all_both}
+use Rattle.sq_run.proofs.Says.{IsNamed, all_named}
 
--- a layout's files have names that differ and no slash
-laid_apart : (folder own_package : List ℕ) (models : List ModelDecl) (path : List ℕ) (query : Query) (found : Judged) → IsApart (layout.query_path (file_name path))
-    → has_equal (map (λ (f : File). f.path) (map (placed folder) (layout.layout own_package models (declared path query found ∷ [])))) ≡ false
+-- the names of a layout's files
+laid_names : (own_package : List ℕ) (models : List ModelDecl) (files : List QueryFile) → map (λ (f : File). f.path) (layout.layout own_package models files) ≡ file_names files
 unfolding layout.db_file layout.models_file layout.query_file
-laid_apart folder own_package models path query found apart =
-    let name = layout.query_path (file_name path) in
-    let first : bytes_eq (folder ++ 47 ∷ codes "db.go") (folder ++ 47 ∷ codes "models.go") ≡ false = placed_apart folder (codes "db.go") (codes "models.go") (λ is. cc is) in
-    let second : bytes_eq (folder ++ 47 ∷ codes "db.go") (folder ++ 47 ∷ name) ≡ false = placed_apart folder (codes "db.go") name apart.database in
-    let third : bytes_eq (folder ++ 47 ∷ codes "models.go") (folder ++ 47 ∷ name) ≡ false = placed_apart folder (codes "models.go") name apart.models in
-    rw (first, second, third) refl
+laid_names own_package models files = ap (λ names. codes "db.go" ∷ codes "models.go" ∷ names) (query_names files)
+  where
+    query_names : (files : List QueryFile) → map (λ (f : File). f.path) (layout.query_files own_package models files) ≡ map (λ (file : QueryFile). layout.query_path file.source) files
+    query_names [] = refl
+    query_names (file ∷ files) = ap (λ names. layout.query_path file.source ∷ names) (query_names files)
 
-laid_in : (folder own_package : List ℕ) (models : List ModelDecl) (path : List ℕ) (query : Query) (found : Judged)
-    → AllByRecursion (LiesIn folder) (map (placed folder) (layout.layout own_package models (declared path query found ∷ [])))
+-- the files of an output differ
+laid_apart : (output : Output) (models : List ModelDecl) (files : List QueryFile) → has_equal (file_names files) ≡ false → has_equal (map (λ (f : File). f.path) (output_files output models files)) ≡ false
+laid_apart output models files none = placed_differ output.path (layout.layout output.package_name models files) ∙ ap has_equal (laid_names output.package_name models files) ∙ none
+
+-- and lie in its folder
+laid_in : (output : Output) (models : List ModelDecl) (files : List QueryFile) → AllByRecursion IsNamed files → AllByRecursion (LiesIn output.path) (output_files output models files)
 unfolding layout.db_file layout.models_file layout.query_file
-laid_in folder own_package models path query found = (
-  folder_placed folder (codes "db.go") refl,
-  (
-    folder_placed folder (codes "models.go") refl,
-    (folder_placed folder (layout.query_path (file_name path)) (list_any-append is_slash (file_name path) (codes ".go") ∙ rw (no_slash path) refl), tt),
-  ),
-)
-
-all_both : {X : Type 0} (P : X → Type 0) (xs ys : List X) → AllByRecursion P xs → AllByRecursion P ys → AllByRecursion P (xs ++ ys)
-all_both P [] ys first second = second
-all_both P (x ∷ xs) ys first second = (first.0, all_both P xs ys first.1 second)
+laid_in output models files named = (folder_placed output.path (codes "db.go") refl, (folder_placed output.path (codes "models.go") refl, queries_in files named))
+  where
+    queries_in : (files : List QueryFile) → AllByRecursion IsNamed files → AllByRecursion (LiesIn output.path) (map (placed output.path) (layout.query_files output.package_name models files))
+    queries_in [] named = tt
+    queries_in (file ∷ files) named =
+        let none : list_any is_slash file.source ≡ false = ap (list_any is_slash) named.0.1 ∙ no_slash named.0.0 in
+        (folder_placed output.path (layout.query_path file.source) (list_any-append is_slash file.source (codes ".go") ∙ rw none refl), queries_in files named.1)
 
 all_lie_elsewhere : (folders : List (List ℕ)) (folder : List ℕ) (files : List File) → AllByRecursion (LiesIn folder) files → list_any (λ path. bytes_eq path folder) folders ≡ false → AllByRecursion (LiesElsewhere folders) files
 all_lie_elsewhere folders folder [] all none = tt
@@ -70,9 +64,6 @@ pub record AreApart (seen : List (List ℕ)) (put : List File) : Type 0 where
   pub elsewhere : AllByRecursion (LiesElsewhere seen) put
   pub apart : has_equal (map (λ (f : File). f.path) put) ≡ false
 
-pub no_files : (files : List File) → ◌≡◌ {A = Result (List File) (List Finding)} (Ok []) (Ok files) → files ≡ []
-no_files files is = sym (cc is)
-
 -- no output is in a folder seen before
 seen_none : (seen : List (List ℕ)) (entry : Entry) (entries : List Entry) → same_out_after seen (entry ∷ entries) ≡ None → (list_any (λ path. bytes_eq path entry.path) seen ≡ false) × (same_out_after (entry.path ∷ seen) entries ≡ None)
 seen_none seen entry entries none = elim (cases_Bool (list_any (λ path. bytes_eq path entry.path) seen)) [
@@ -80,42 +71,29 @@ seen_none seen entry entries none = elim (cases_Bool (list_any (λ path. bytes_e
   | inr not ↦ (not, rw not at none)
 ]
 
-module _ (path : List ℕ) (held : List File) where
-  own_apart : (block : Block) (plan : Plan) (output : Output) (own : List File) → plan_in block ≡ Some plan → plan.output ≡ Some output → FromPlan path plan held own
-      → AllByRecursion (LiesIn output.path) own × (has_equal (map (λ (f : File). f.path) own) ≡ false)
-  own_apart block plan output own planned has from =
-      let declaration = declared plan.queries from.query.query from.query.found in
-      let laid = written_ok path output (models_of from.contents) (declaration ∷ []) own (subst (λ (o : Option Output). written path o (models_of from.contents) (declaration ∷ []) ≡ Ok own) has from.query.laid_out) in
-      rw laid.1 (
-        laid_in output.path output.package_name (models_of from.contents) plan.queries from.query.query from.query.found,
-        laid_apart output.path output.package_name (models_of from.contents) plan.queries from.query.query from.query.found (file_apart (models_of from.contents) declaration laid.0),
-      )
+-- the files of entries, before those of later blocks
+entries_apart : (path : List ℕ) (models : List ModelDecl) (files : List QueryFile) (rest : List Entry) (later : List File) → AllByRecursion IsNamed files → ((more : List (List ℕ)) → same_out_after more rest ≡ None → AreApart more later)
+    → (entries : List Entry) (outputs : List Output) (own : List File) (seen : List (List ℕ)) → AllZip FromEntry entries outputs → EachOk (written path models files) outputs own → same_out_after seen (entries ++ rest) ≡ None → AreApart seen (own ++ later)
+entries_apart path models files rest later named next [] [] own seen from each none = rw each (next seen none)
+entries_apart path models files rest later named next [] (output ∷ outputs) own seen from each none = absurd from
+entries_apart path models files rest later named next (entry ∷ entries) [] own seen from each none = absurd from
+entries_apart path models files rest later named next (entry ∷ entries) (output ∷ outputs) own seen from each none =
+    let seen_so = seen_none seen entry (entries ++ rest) none in
+    let others = entries_apart path models files rest later named next entries outputs each.1 (entry.path ∷ seen) from.1 each.4 seen_so.1 in
+    let laid = written_ok path models files output each.0 each.2 in
+    let lie = subst (λ (folder : List ℕ). AllByRecursion (LiesIn folder) each.0) from.0.at_path (subst (λ (fs : List File). AllByRecursion (LiesIn output.path) fs) (sym laid.1) (laid_in output models files named)) in
+    let mine = subst (λ (fs : List File). has_equal (map (λ (f : File). f.path) fs) ≡ false) (sym laid.1) (laid_apart output models files (names_differ models files laid.0)) in
+    let elsewhere = first_elsewhere entry.path seen (each.1 ++ later) others.elsewhere in
+    let split : own ++ later ≡ each.0 ++ (each.1 ++ later) = ap (λ fs. fs ++ later) each.3 ∙ append_assoc each.0 each.1 later in
+    subst (AreApart seen) (sym split) (record {
+      elsewhere = all_both (LiesElsewhere seen) each.0 (each.1 ++ later) (all_lie_elsewhere seen entry.path each.0 lie seen_so.0) elsewhere.1;
+      apart = apart_together entry.path each.0 (each.1 ++ later) lie elsewhere.0 mine others.apart;
+    })
 
-  pub own_none : (plan : Plan) (own : List File) → plan.output ≡ None → FromPlan path plan held own → own ≡ []
-  own_none plan own has from =
-      written_none path (models_of from.contents) (declared plan.queries from.query.query from.query.found ∷ []) own
-      (subst (λ (o : Option Output). written path o (models_of from.contents) (declared plan.queries from.query.query from.query.found ∷ []) ≡ Ok own) has from.query.laid_out)
-
-  pub blocks_apart : (blocks : List Block) (seen : List (List ℕ)) (put : List File) → (all_files path blocks held).answer ≡ Some (Ok put) → same_out_after seen (all_entries blocks) ≡ None → AreApart seen put
-  blocks_apart [] seen put is none = subst (AreApart seen) (sym (no_files put (same_Some _ _ is))) (record { elsewhere = tt; apart = refl })
-  blocks_apart (block ∷ blocks) seen put is none =
-      let parts = and_also_ok (block_files path block held) (all_files path blocks held) put is in
-      let from = block_from path block held parts.0 parts.2 in
-      subst (AreApart seen) (sym parts.4) (by_output parts.0 parts.1 from.plan from.planned from.from (λ more h. blocks_apart blocks more parts.1 parts.3 h) from.plan.output refl)
-    where
-      by_output : (own later : List File) (plan : Plan) → plan_in block ≡ Some plan → FromPlan path plan held own → ((more : List (List ℕ)) → same_out_after more (all_entries blocks) ≡ None → AreApart more later)
-          → (output : Option Output) → plan.output ≡ output → AreApart seen (own ++ later)
-      by_output own later plan planned from next None has =
-          let entries = entries_none block plan planned has in
-          rw (own_none plan own has from) (next seen (subst (λ (es : List Entry). same_out_after seen (es ++ all_entries blocks) ≡ None) entries none))
-      by_output own later plan planned from next (Some output) has =
-          let entry = entry_from block plan output planned has in
-          let seen_so = seen_none seen entry.entry (all_entries blocks) (subst (λ (es : List Entry). same_out_after seen (es ++ all_entries blocks) ≡ None) entry.only_one none) in
-          let rest = next (entry.entry.path ∷ seen) seen_so.1 in
-          let mine = own_apart block plan output own planned has from in
-          let lie = subst (λ (folder : List ℕ). AllByRecursion (LiesIn folder) own) entry.at_path mine.0 in
-          let others = first_elsewhere entry.entry.path seen later rest.elsewhere in
-          record {
-            elsewhere = all_both (LiesElsewhere seen) own later (all_lie_elsewhere seen entry.entry.path own lie seen_so.0) others.1;
-            apart = apart_together entry.entry.path own later lie others.0 mine.1 rest.apart;
-          }
+pub blocks_apart : (path : List ℕ) (held : List File) (n : ℕ) (blocks : List Block) (seen : List (List ℕ)) (put : List File) → Gathered (λ _ block. block_files path block) held n blocks put → same_out_after seen (all_entries blocks) ≡ None → AreApart seen put
+blocks_apart path held n [] seen put each none = subst (AreApart seen) (sym each) (record { elsewhere = tt; apart = refl })
+blocks_apart path held n (block ∷ blocks) seen put each none =
+    let from = block_from path block held each.0 each.2 in
+    let named = all_named from.contents from.queries from.declared from.judges in
+    subst (AreApart seen) (sym each.3)
+    (entries_apart path (models_of from.contents) from.declared (all_entries blocks) each.1 named (λ more h. blocks_apart path held (n + 1) blocks more each.1 each.4 h) block.entries from.outputs each.0 seen from.entries from.laid_out none)

@@ -1,17 +1,20 @@
 -- The files of one output have paths that differ, and the file of the queries is none of the package's own.
-use Rattle.std.proofs.Common.{◌≡◌, ◌≢◌, ℕ, ◌-◌, ◌==◌, ◌||◌, Bool, true, false, List, [], ◌∷◌, ◌++◌, length, take, drop, nat_eq, refl, sym, ◌∙◌, ap, inl, inr, arith}
+use Rattle.std.proofs.Common.{◌≡◌, ◌≢◌, ℕ, ◌-◌, ◌==◌, ◌||◌, Bool, true, false, List, [], ◌∷◌, ◌++◌, length, map, take, drop, nat_eq, refl, sym, ◌∙◌, ap, inl, inr, arith}
 use Rattle.std.specs.Prelude.{codes}
-use Rattle.std.specs.List.{list_any, ends_with}
+use Rattle.std.specs.List.{AllByRecursion, list_any, ends_with}
 use Rattle.std.specs.Str.{bytes_eq}
 use Rattle.std.proofs.lemmas.Bool.{cases_Bool}
 use Rattle.std.proofs.lemmas.List.{take-append-drop, append_cancel_left}
 use Rattle.std.proofs.lemmas.List.Folds.{list_any-append}
 use Rattle.std.proofs.lemmas.Slice.Eq.{bytes_eq-Decides}
-use Rattle.sq_core.specs.Layout.{query_path}
-use Rattle.sq_core.specs.Names.{has_equal}
+use Rattle.sq_base.specs.declared.file.File.{File}
+use Rattle.sq_core.specs.Layout.{query_path, queries_of}
+use Rattle.sq_core.specs.Names.{clash, has_equal, top_level, methods, file_names}
+use Rattle.sq_core.specs.declared.declaration.ModelDecl.{ModelDecl}
+use Rattle.sq_core.specs.declared.declaration.QueryFile.{QueryFile}
 use Rattle.sq_reader.specs.Items.{is_empty, is_last_part}
 use Rattle.sq_reader.specs.Parts.{same}
-use Rattle.sq_run.specs.Project.{file_name}
+use Rattle.sq_run.specs.Project.{file_name, placed}
 use Rattle.sq_run.proofs.Models.{either_none}
 
 abbrev pub is_slash : ℕ → Bool
@@ -34,23 +37,46 @@ differs xs ys other = elim (cases_Bool (bytes_eq xs ys)) [
   | inr not ↦ not
 ]
 
--- paths in one folder differ where the names do
-pub placed_apart : (folder a b : List ℕ) → a ≢ b → bytes_eq (folder ++ 47 ∷ a) (folder ++ 47 ∷ b) ≡ false
-placed_apart folder a b other = differs (folder ++ 47 ∷ a) (folder ++ 47 ∷ b) (λ is. other (ap (drop 1) (append_cancel_left folder (47 ∷ a) (47 ∷ b) is)))
+-- paths in one folder are equal where the names are
+placed_equal : (folder a b : List ℕ) → bytes_eq (folder ++ 47 ∷ a) (folder ++ 47 ∷ b) ≡ bytes_eq a b
+placed_equal folder a b = elim (cases_Bool (bytes_eq a b)) [
+  | inl is ↦ rw is ((bytes_eq-Decides _ _).1 (ap (λ (f : List ℕ). folder ++ 47 ∷ f) ((bytes_eq-Decides a b).0 is)))
+  | inr not ↦ rw not (differs _ _ (λ is. differ a b not (ap (drop 1) (append_cancel_left folder (47 ∷ a) (47 ∷ b) is))))
+]
+
+any_placed : (folder name : List ℕ) (files : List File) → list_any (bytes_eq (folder ++ 47 ∷ name)) (map (λ (f : File). f.path) (map (placed folder) files)) ≡ list_any (bytes_eq name) (map (λ (f : File). f.path) files)
+any_placed folder name [] = refl
+any_placed folder name (file ∷ files) = rw (placed_equal folder name file.path, any_placed folder name files) refl
+
+-- files in one folder have paths that differ where their names do
+pub placed_differ : (folder : List ℕ) (files : List File) → has_equal (map (λ (f : File). f.path) (map (placed folder) files)) ≡ has_equal (map (λ (f : File). f.path) files)
+placed_differ folder [] = refl
+placed_differ folder (file ∷ files) = rw (any_placed folder file.path files, placed_differ folder files) refl
 
 -- the file of the queries has another name than the package's own
 pub record IsApart (name : List ℕ) : Type 0 where
   pub database : codes "db.go" ≢ name
   pub models : codes "models.go" ≢ name
 
-pub names_apart : (name : List ℕ) → has_equal (codes "db.go" ∷ codes "models.go" ∷ name ∷ []) ≡ false → IsApart name
-names_apart name none =
-    let first = either_none (bytes_eq (codes "db.go") name || false) (has_equal (codes "models.go" ∷ name ∷ [])) none in
-    let second = either_none (bytes_eq (codes "models.go") name || false) (has_equal (name ∷ [])) first.1 in
-    record {
-      database = differ _ _ (either_none (bytes_eq (codes "db.go") name) false first.0).0;
-      models = differ _ _ (either_none (bytes_eq (codes "models.go") name) false second.0).0;
-    }
+-- no file of queries has the name of one of the package's own
+names_apart : (files : List QueryFile) → list_any (bytes_eq (codes "db.go")) (map (λ (file : QueryFile). query_path file.source) files) ≡ false → list_any (bytes_eq (codes "models.go")) (map (λ (file : QueryFile). query_path file.source) files) ≡ false
+    → AllByRecursion (λ (file : QueryFile). IsApart (query_path file.source)) files
+names_apart [] first second = tt
+names_apart (file ∷ files) first second =
+    let database = either_none (bytes_eq (codes "db.go") (query_path file.source)) (list_any (bytes_eq (codes "db.go")) (map (λ (file : QueryFile). query_path file.source) files)) first in
+    let models = either_none (bytes_eq (codes "models.go") (query_path file.source)) (list_any (bytes_eq (codes "models.go")) (map (λ (file : QueryFile). query_path file.source) files)) second in
+    (record { database = differ _ _ database.0; models = differ _ _ models.0 }, names_apart files database.1 models.1)
+
+-- the names of a package's files differ
+pub names_differ : (models : List ModelDecl) (files : List QueryFile) → clash models files ≡ false → has_equal (file_names files) ≡ false
+names_differ models files none = (either_none (has_equal (top_level models (queries_of files)) || has_equal (methods (queries_of files))) (has_equal (file_names files)) none).1
+
+pub files_apart : (models : List ModelDecl) (files : List QueryFile) → clash models files ≡ false → AllByRecursion (λ (file : QueryFile). IsApart (query_path file.source)) files
+files_apart models files none =
+    let names = map (λ (file : QueryFile). query_path file.source) files in
+    let first = either_none (list_any (bytes_eq (codes "db.go")) (codes "models.go" ∷ names)) (has_equal (codes "models.go" ∷ names)) (names_differ models files none) in
+    let second = either_none (list_any (bytes_eq (codes "models.go")) names) (has_equal names) first.1 in
+    names_apart files (either_none false (list_any (bytes_eq (codes "db.go")) names) first.0).1 second.0
 
 -- a front that ends with a slash has one
 slash_last : (front : List ℕ) → ends_with nat_eq front (codes "/") ≡ true → list_any is_slash front ≡ true

@@ -1,5 +1,5 @@
 -- How a read and a list of the tree follow what a run asks.
-use Rattle.std.proofs.Common.{◌≡◌, ◌≤◌, ◌<◌, ℕ, ◌+◌, List, [], ◌∷◌, length, take, Option, None, Some, Ok, Err, refl, sym, ◌∙◌, ap, arith}
+use Rattle.std.proofs.Common.{◌≡◌, ◌≤◌, ◌<◌, ℕ, ◌+◌, List, [], ◌∷◌, length, take, Option, None, Some, Result, Ok, Err, refl, sym, ◌∙◌, ap, arith}
 use Rattle.std.specs.Prelude.{IfSome}
 use Rattle.std.specs.Option.{option_map}
 use Rattle.std.proofs.lemmas.Option.{IfSome_then}
@@ -9,14 +9,15 @@ use Rattle.sq_base.specs.Files.{bytes_at, IsListing}
 use Rattle.sq_base.specs.Tree.{TreeState, IsTreeCall, Reads, Lists, Answers, bytes_at_most}
 use Rattle.sq_base.specs.declared.file.File.{File}
 use Rattle.sq_base.specs.declared.tree.Listing.{Listing}
-use Rattle.sq_base.specs.declared.tree.Listing.TheVariants.{Folder}
+use Rattle.sq_base.specs.declared.tree.Listing.TheVariants.{File as IsFile, Folder}
 use Rattle.sq_base.specs.declared.tree.TreeFault.{TreeFault}
 use Rattle.sq_base.specs.declared.tree.TreeFault.TheVariants.{Missing as IsMissing, Failed as HasFailed, Memory as NoMemory}
 use Rattle.sq_run.specs.declared.read.TheConstants.{LIMIT}
 use Rattle.sq_run.specs.declared.read.Role.{Role}
 use Rattle.sq_run.specs.declared.read.Role.TheVariants.{Source}
 use Rattle.sq_run.specs.declared.halt.Halt.{Halt}
-use Rattle.sq_run.specs.Asked.{Follows}
+use Rattle.sq_run.specs.declared.halt.Halt.TheVariants.{Usage, Refused, Missing, Failed, Memory}
+use Rattle.sq_run.specs.Asked.{Follows, Judges}
 use Rattle.sq_run.specs.Halts.{IsHaltOf, IsRefusalOf}
 use Rattle.sq_run.specs.Project.{not_yet, refused_file, checked, whole_file, wanted_file}
 use Rattle.sq_run.proofs.Steps.{if_told, called_ok, called_refused, called_halt}
@@ -64,6 +65,19 @@ pub list_folder : {path : List ℕ} {names : List (List ℕ)} {old new : TreeSta
     → Follows (wanted_file path) old new (Err halt)
 list_folder {path = path} {names = names} {old = old} halt call lists halted =
     called_refused path _ _ _ (Folder names) (not_yet Source path ∷ []) halt call halted (IfSome_then old.files lists.told (λ files is. rw (is.0, is.1) refl))
+
+pub list_found : {path : List ℕ} {old new : TreeState} (r : Result (List (List ℕ)) Halt) → IsTreeCall {A = Listing} old new (Ok IsFile) → Lists path old (Ok IsFile) → Judges (Ok (path ∷ [])) r → Follows (wanted_file path) old new r
+list_found {path = path} {old = old} (Ok value) call lists judges = called_ok path _ _ _ IsFile value call (IfSome_then old.files lists.told (λ files is. rw (is, judges) refl))
+list_found (Err (Refused findings)) call lists judges = absurd (cc judges)
+list_found (Err Usage) call lists judges = absurd judges
+list_found (Err (Missing path)) call lists judges = absurd judges
+list_found (Err (Failed path)) call lists judges = absurd judges
+list_found {path = path} {old = old} (Err Memory) call lists judges = record {
+  files = call.files;
+  faults = omega (arith, call.faults);
+  missings = omega (arith, call.missings);
+  asked = if_told old.files (λ files. record { made = path ∷ []; ends = ([], refl); calls = call.calls });
+}
 
 pub list_halted : {path : List ℕ} {old new : TreeState} {fault : TreeFault} (halt : Halt) → IsTreeCall {A = Listing} old new (Err fault) → Lists path old (Err fault) → IsHaltOf fault path halt
     → Follows (wanted_file path) old new (Err halt)

@@ -1,33 +1,38 @@
 -- The headline of an accepted configuration.
-use Rattle.std.proofs.Common.{◌≡◌, ℕ, true, List, [], ◌∷◌, ◌++◌, map, Option, None, Some, Ok, refl, sym, ap, subst, arith}
+use Rattle.std.proofs.Common.{◌≡◌, ℕ, ◌+◌, true, false, List, [], ◌∷◌, ◌++◌, map, Option, None, Some, Ok, refl, sym, ap, subst}
 use Rattle.std.specs.Prelude.{IfSome}
-use Rattle.std.specs.List.{AllByRecursion}
+use Rattle.std.specs.List.{AllByRecursion, AllZip}
 use Rattle.std.specs.Option.{option_map}
 use Rattle.std.proofs.lemmas.Option.{same_Some}
 use Rattle.sq_base.specs.Files.{bytes_at}
 use Rattle.sq_base.specs.declared.file.File.{File}
 use Rattle.sq_core.specs.Layout as layout
+use Rattle.sq_core.specs.Names.{clash}
 use Rattle.sq_core.specs.Words.{is_word}
+use Rattle.sq_core.specs.declared.declaration.ModelDecl.{ModelDecl}
+use Rattle.sq_core.specs.declared.declaration.QueryFile.{QueryFile}
+use Rattle.sq_core.specs.declared.signature.Shown.{Shown}
+use Rattle.sq_reader.specs.Reading.{Reads}
 use Rattle.sq_run.specs.declared.command_line.Request.{Request}
 use Rattle.sq_run.specs.declared.command_line.Task.{Task}
 use Rattle.sq_run.specs.declared.command_line.Task.TheVariants.{Generate}
 use Rattle.sq_run.specs.declared.configuration.Block.{Block}
-use Rattle.sq_run.specs.declared.plan.Output.{Output}
-use Rattle.sq_run.specs.declared.plan.Plan.{Plan}
+use Rattle.sq_run.specs.declared.configuration.Entry.{Entry}
+use Rattle.sq_run.specs.declared.outputs.Output.{Output}
+use Rattle.sq_run.specs.declared.sources.SourceFile.{SourceFile}
 use Rattle.sq_run.specs.declared.status.Status.{Status}
 use Rattle.sq_run.specs.declared.status.Status.TheVariants.{Done}
 use Rattle.sq_run.specs.CommandLine.{request_of}
-use Rattle.sq_run.specs.Headline.{IsWritten, IsPutFor, ArePut, IsHeadline, Headline}
-use Rattle.sq_run.specs.Project.{plan_in, models_of, declared, placed, written, block_files, all_files, asked_by, task_asked}
+use Rattle.sq_run.specs.Headline.{IsSource, IsWritten, InOrder, IsBlock, IsHeadline, Headline}
+use Rattle.sq_run.specs.Project.{models_of, placed, written, block_files, asked_by, task_asked}
 use Rattle.sq_run.specs.Run.{Outside, Cause, Kept, HoldsAll, files_asked}
 use Rattle.sq_run.proofs.Kept.{told_then}
-use Rattle.sq_run.proofs.Plans.{FromPlan, accepted_from, block_from, entry_from, outs_apart, written_ok}
-use Rattle.sq_run.proofs.Origins.{schema_from, query_from}
+use Rattle.sq_run.proofs.Plans.{FromSource, FromEntry, is_source, accepted_from, block_from, outs_apart, written_ok}
+use Rattle.sq_run.proofs.Origins.{all_read, schema_from}
 use Rattle.sq_run.proofs.FoldersApart.{IsHeldAt, all_held}
-use Rattle.sq_run.proofs.OkSteps.{and_also_ok}
-use Rattle.sq_run.proofs.Sizes.{list_size}
-use Rattle.sq_run.proofs.Says.{Laws, says_over}
-use Rattle.sq_run.proofs.BlocksApart.{no_files, own_none, blocks_apart}
+use Rattle.sq_run.proofs.OkSteps.{Gathered, gathered_ok, EachOk}
+use Rattle.sq_run.proofs.Says.{Laws, signatures_of, says_over}
+use Rattle.sq_run.proofs.BlocksApart.{blocks_apart}
 
 -- files that are held in a folder
 held_placed : (now : List File) (folder : List ℕ) (files : List File) → AllByRecursion (IsHeldAt now) (map (placed folder) files) → AllByRecursion (λ (file : File). bytes_at now (placed folder file).path ≡ Some file.bytes) files
@@ -42,55 +47,61 @@ all_back : {X : Type 0} (P : X → Type 0) (xs ys : List X) → AllByRecursion P
 all_back P [] ys all = all
 all_back P (x ∷ xs) ys all = all_back P xs ys all.1
 
-module _ (laws : Laws) (path : List ℕ) (held now : List File) where
-  -- what was put for a plan with an output
-  written_for : (block : Block) (plan : Plan) (output : Output) (put : List File) → plan_in block ≡ Some plan → plan.output ≡ Some output → FromPlan path plan held put → AllByRecursion (IsHeldAt now) put → IsWritten plan output held now put
-  written_for block plan output put planned has from all =
-      let schema = schema_from plan.schema from.schema from.contents from.replays in
-      let text = query_from from.query.tokens from.query.query from.query.annotated in
-      let declaration = declared plan.queries from.query.query from.query.found in
-      let laid = written_ok path output (models_of from.contents) (declaration ∷ []) put (subst (λ (o : Option Output). written path o (models_of from.contents) (declaration ∷ []) ≡ Ok put) has from.query.laid_out) in
-      let entry = entry_from block plan output planned has in
-      let word : is_word output.package_name ≡ true = rw entry.named (laws.packages entry.entry.options.out) in
-      record {
-        schema = from.schema;
-        source = from.source;
-        contents = from.contents;
-        tokens = from.query.tokens;
-        query = from.query.query;
-        files = layout.layout output.package_name (models_of from.contents) (declaration ∷ []);
-        schema_held = from.schema_held;
-        replays = from.replays;
-        source_held = from.source_held;
-        listed = from.query.listed;
-        annotated = from.query.annotated;
-        put_there = laid.1;
-        holds = held_placed now output.path (layout.layout output.package_name (models_of from.contents) (declaration ∷ [])) (subst (AllByRecursion (IsHeldAt now)) laid.1 all);
-        says = says_over laws output.package_name plan.queries word from.contents schema.table schema.statement schema.reads (omega (arith, schema.small, from.schema_fits)) schema.holds
-            from.source from.query.tokens from.query.listed (omega (arith, list_size 1 from.source from.query.tokens from.query.listed, from.source_fits)) from.query.query text from.query.found from.query.judges laid.0;
-      }
+sources_held : (held : List File) (paths : List (List ℕ)) (files : List SourceFile) → AllZip (FromSource held) paths files → AllZip (IsSource held) paths files
+sources_held held [] [] from = tt
+sources_held held [] (file ∷ files) from = absurd from
+sources_held held (path ∷ paths) [] from = absurd from
+sources_held held (path ∷ paths) (file ∷ files) from = (is_source held path file from.0, sources_held held paths files from.1)
 
-  -- by whether a plan has an output
-  plan_put : (block : Block) (plan : Plan) (put : List File) → plan_in block ≡ Some plan → FromPlan path plan held put → AllByRecursion (IsHeldAt now) put → (output : Option Output) → plan.output ≡ output → IsPutFor plan output held now put
-  plan_put block plan put planned from all None has = own_none path held plan put has from
-  plan_put block plan put planned from all (Some output) has = written_for block plan output put planned has from all
+module _ (laws : Laws) (path : List ℕ) (held now : List File) where
+  -- what was put for the outputs of a block
+  outputs_put : (models : List ModelDecl) (files : List QueryFile) (signatures : List Shown) → ((own_package : List ℕ) → is_word own_package ≡ true → clash models files ≡ false → Reads (layout.layout own_package models files) signatures)
+      → (entries : List Entry) (outputs : List Output) (put : List File) → AllZip FromEntry entries outputs → EachOk (written path models files) outputs put → AllByRecursion (IsHeldAt now) put → InOrder (IsWritten signatures now) outputs put
+  outputs_put models files signatures reads [] [] put from each all = each
+  outputs_put models files signatures reads [] (output ∷ outputs) put from each all = absurd from
+  outputs_put models files signatures reads (entry ∷ entries) [] put from each all = absurd from
+  outputs_put models files signatures reads (entry ∷ entries) (output ∷ outputs) put from each all =
+      let laid = written_ok path models files output each.0 each.2 in
+      let held_all = subst (AllByRecursion (IsHeldAt now)) each.3 all in
+      let own = all_front (IsHeldAt now) each.0 each.1 held_all in
+      let word : is_word output.package_name ≡ true = rw from.0.named (laws.packages entry.options.out) in (
+        each.0,
+        each.1,
+        each.3,
+        record {
+          files = layout.layout output.package_name models files;
+          put_there = laid.1;
+          holds = held_placed now output.path (layout.layout output.package_name models files) (subst (AllByRecursion (IsHeldAt now)) laid.1 own);
+          reads = reads output.package_name word laid.0;
+        },
+        outputs_put models files signatures reads entries outputs each.1 from.1 each.4 (all_back (IsHeldAt now) each.0 each.1 held_all),
+      )
+
+  block_put : (block : Block) (put : List File) → (block_files path block held).answer ≡ Some (Ok put) → AllByRecursion (IsHeldAt now) put → IsBlock path held now block put
+  block_put block put is all =
+      let from = block_from path block held put is in
+      let schema = schema_from path from.schema from.contents (all_read held block.schema from.schema from.schema_held) from.replays in
+      let said = says_over laws from.contents schema from.queries from.declared (all_read held block.queries from.queries from.queries_held) from.judges in
+      record {
+        outputs = from.outputs;
+        schema = from.schema;
+        contents = from.contents;
+        queries = from.queries;
+        signatures = signatures_of from.declared;
+        has_outputs = from.has_outputs;
+        schema_held = sources_held held block.schema from.schema from.schema_held;
+        replays = from.replays;
+        queries_held = sources_held held block.queries from.queries from.queries_held;
+        says = said.says;
+        written = outputs_put (models_of from.contents) from.declared (signatures_of from.declared) said.reads block.entries from.outputs put from.entries from.laid_out all;
+      }
 
   -- what was put for all blocks
-  are_put : (blocks : List Block) (put : List File) → (all_files path blocks held).answer ≡ Some (Ok put) → AllByRecursion (IsHeldAt now) put → ArePut blocks held now put
-  are_put [] put is all = no_files put (same_Some _ _ is)
-  are_put (block ∷ blocks) put is all =
-      let parts = and_also_ok (block_files path block held) (all_files path blocks held) put is in
-      let from = block_from path block held parts.0 parts.2 in
-      let each = subst (AllByRecursion (IsHeldAt now)) parts.4 all in
-      record {
-        own = parts.0;
-        later = parts.1;
-        plan = from.plan;
-        split = parts.4;
-        planned = from.planned;
-        first = plan_put block from.plan parts.0 from.planned from.from (all_front (IsHeldAt now) parts.0 parts.1 each) from.plan.output refl;
-        others = are_put blocks parts.1 parts.3 (all_back (IsHeldAt now) parts.0 parts.1 each);
-      }
+  blocks_put : (n : ℕ) (blocks : List Block) (put : List File) → Gathered (λ _ block. block_files path block) held n blocks put → AllByRecursion (IsHeldAt now) put → InOrder (IsBlock path held now) blocks put
+  blocks_put n [] put each all = each
+  blocks_put n (block ∷ blocks) put each all =
+      let held_all = subst (AllByRecursion (IsHeldAt now)) each.3 all in
+      (each.0, each.1, each.3, block_put block each.0 each.2 (all_front (IsHeldAt now) each.0 each.1 held_all), blocks_put (n + 1) blocks each.1 each.4 (all_back (IsHeldAt now) each.0 each.1 held_all))
 
 -- what was put for an accepted configuration
 headline_of : (laws : Laws) (words : List (List ℕ)) (held before now : List File) (path : List ℕ) (files : List File) → request_of words ≡ Some (record { task = Generate; path = path }) → (asked_by words held).answer ≡ Some (Ok files)
@@ -98,7 +109,8 @@ headline_of : (laws : Laws) (words : List (List ℕ)) (held before now : List Fi
 headline_of laws words held before now path files asks answer all =
     let from = accepted_from path held files (rw asks at answer) in
     let asked : files_asked words held ≡ files = rw (asks, rw asks at answer) refl in
-    let apart = (blocks_apart path held from.blocks [] files from.made (outs_apart path from.configuration from.blocks from.configures)).apart in
+    let made = gathered_ok (λ _ block. block_files path block) held 0 from.blocks files from.made in
+    let apart = (blocks_apart path held 0 from.blocks [] files made (outs_apart path from.configuration from.blocks from.configures)).apart in
     let each = all_held files now (λ place. bytes_at before place) apart (subst (λ (fs : List File). HoldsAll fs before now) asked all) in
     record {
       path = path;
@@ -107,7 +119,7 @@ headline_of laws words held before now path files asks answer all =
       asks = asks;
       configuration_held = from.configuration_held;
       configures = from.configures;
-      put = subst (λ (fs : List File). ArePut from.blocks held now fs) (sym asked) (are_put laws path held now from.blocks files from.made each);
+      put = subst (InOrder (IsBlock path held now) from.blocks) (sym asked) (blocks_put laws path held now 0 from.blocks files made each);
     }
 
 -- words that ask to generate do so at some path

@@ -2,6 +2,7 @@ pub mod BlocksApart
 pub mod Calls
 pub mod Causes
 pub mod Each
+pub mod EachJudged
 pub mod FileNames
 pub mod Files
 pub mod FirstTypes

@@ -1,10 +1,12 @@
 -- Where a catalogue's table, a query's text and its columns come from.
 use Rattle.std.proofs.Common.{◌≡◌, ◌≢◌, ◌≤◌, ℕ, ◌-◌, true, List, [], ◌∷◌, length, take, drop, Option, None, Some, Result, Ok, Err, refl, sym, ◌∙◌, ap, subst, inl, inr, arith, slice_get}
 use Rattle.std.specs.Prelude.{codes}
+use Rattle.std.specs.List.{AllByRecursion, AllZip}
 use Rattle.std.specs.Option.{option_map}
 use Rattle.std.proofs.lemmas.Bool.{cases_Bool}
 use Rattle.std.proofs.lemmas.List.{length-drop}
 use Rattle.std.proofs.lemmas.Option.{same_Some}
+use Rattle.sq_base.specs.declared.file.File.{File}
 use Rattle.sq_base.specs.declared.refusal.Refusal.{Refusal}
 use Rattle.sq_catalog.specs.Contents.{Contents}
 use Rattle.sq_catalog.specs.Catalogue.{placed_table, place_of_table}
@@ -22,39 +24,72 @@ use Rattle.sq_run.specs.declared.query.Query.{Query}
 use Rattle.sq_run.specs.declared.statements.CreateTable.{CreateTable}
 use Rattle.sq_run.specs.declared.statements.Select.{Select}
 use Rattle.sq_run.specs.Judged.{judged, judged_names, judged_select, model_used, unknown}
-use Rattle.sq_run.specs.Project.{catalogue_with, catalogue_by, catalogue_of, table_of, with_tokens, without_notes}
+use Rattle.sq_run.specs.declared.read.TheConstants.{LIMIT}
+use Rattle.sq_run.specs.declared.sources.SourceFile.{SourceFile}
+use Rattle.sq_run.specs.Asked.{each_judged}
+use Rattle.sq_run.specs.Project.{catalogue_with, catalogue_of, table_of, table_by, tables_by, tables_in, without_notes}
 use Rattle.sq_run.specs.Names.{is_identifier}
 use Rattle.sq_run.specs.Query.{behind, before_end, query_name, noted_name, annotation, annotated, query_of}
 use Rattle.sq_run.specs.Statements.{one_statement, create_table, select}
 use Rattle.sq_run.proofs.FirstTypes.{placed_there, same_ok}
-use Rattle.sq_run.proofs.OkSteps.{bind_some}
+use Rattle.sq_run.proofs.OkSteps.{bind_some, no_items, EachOk, each_ok, all_both}
 use Rattle.sq_run.proofs.Sizes.{list_size, notes_size, table_size, query_size, statement_size}
-use Rattle.sq_run.proofs.Plans.{catalogue_ok}
+use Rattle.sq_run.proofs.Plans.{FromSource, catalogue_ok}
 
--- the table of the catalogue
-pub record FromSchema (schema : List ℕ) (contents : Contents) : Type 0 where
-  pub table : CreateTable
+-- the tokens of a source that was read
+pub record IsRead (file : SourceFile) : Type 0 where
+  pub number : ℕ
+  pub bytes : List ℕ
+  pub listed : token_list number bytes ≡ Ok file.tokens
+  pub small : length file.tokens ≤ LIMIT
+
+pub all_read : (held : List File) (paths : List (List ℕ)) (files : List SourceFile) → AllZip (FromSource held) paths files → AllByRecursion IsRead files
+all_read held [] [] from = tt
+all_read held [] (file ∷ files) from = absurd from
+all_read held (path ∷ paths) [] from = absurd from
+all_read held (path ∷ paths) (file ∷ files) from =
+    let one = from.0 in
+    (record { number = one.number; bytes = one.bytes; listed = one.listed; small = omega (arith, list_size one.number one.bytes file.tokens one.listed, one.fits) }, all_read held paths files from.1)
+
+-- a table that a statement makes
+pub record IsMade (table : CreateTable) : Type 0 where
   pub statement : List Token
   pub reads : create_table statement ≡ Some table
-  pub holds : contents ≡ catalogue_with table
-  pub small : length table.columns ≤ length schema
+  pub small : length table.columns ≤ LIMIT
 
-table_ok : (tokens : List Token) (table : CreateTable) → table_of tokens ≡ Some table → (statement : List Token) × (create_table statement ≡ Some table) × (length table.columns ≤ length tokens)
+table_ok : (tokens : List Token) (table : CreateTable) → length tokens ≤ LIMIT → table_of tokens ≡ Some table → IsMade table
 unfolding table_of
-table_ok tokens table is =
-    let statement = bind_some (one_statement (without_notes tokens)) _ table is in
-    let size = (statement_size (without_notes tokens) statement.0 statement.1).0 in
-    (statement.0, statement.2, omega (arith, size, notes_size tokens, table_size statement.0 table statement.2))
+table_ok tokens table few is =
+    let statement = bind_some (one_statement tokens) _ table is in
+    let size = (statement_size tokens statement.0 statement.1).0 in
+    record { statement = statement.0; reads = statement.2; small = omega (arith, size, few, table_size statement.0 table statement.2) }
 
-pub schema_from : (path schema : List ℕ) (contents : Contents) → catalogue_of path schema ≡ Ok contents → FromSchema schema contents
-schema_from path schema contents is = by_tokens (token_list 0 schema) refl is
+tables_ok : (path : List ℕ) (tokens : List Token) (own : List CreateTable) → length tokens ≤ LIMIT → tables_by path tokens ≡ Ok own → AllByRecursion IsMade own
+tables_ok path [] own few is = subst (AllByRecursion IsMade) (sym (no_items own is)) tt
+tables_ok path (t ∷ ts) own few is = by_table (table_of (t ∷ ts)) refl is
   where
-    by_tokens : (list : Result (List Token) Refusal) → token_list 0 schema ≡ list → with_tokens path list (λ tokens. catalogue_by path (table_of tokens)) ≡ Ok contents → FromSchema schema contents
-    by_tokens (Err refusal) listed is = absurd (cc is)
-    by_tokens (Ok tokens) listed is =
-        let found = catalogue_ok path (table_of tokens) contents is in
-        let made = table_ok tokens found.0 found.1 in
-        record { table = found.0; statement = made.0; reads = made.1; holds = found.2; small = omega (arith, made.2, list_size 0 schema tokens listed) }
+    by_table : (found : Option CreateTable) → table_of (t ∷ ts) ≡ found → table_by path found ≡ Ok own → AllByRecursion IsMade own
+    by_table None there is = absurd (cc is)
+    by_table (Some table) there is =
+        let same : table ∷ [] ≡ own = cc is in
+        subst (AllByRecursion IsMade) same (table_ok (t ∷ ts) table few there, tt)
+
+all_made : (schema : List SourceFile) (tables : List CreateTable) → AllByRecursion IsRead schema → EachOk tables_in schema tables → AllByRecursion IsMade tables
+all_made [] tables read each = subst (AllByRecursion IsMade) (sym each) tt
+all_made (file ∷ schema) tables read each =
+    subst (AllByRecursion IsMade) (sym each.3)
+    (all_both IsMade each.0 each.1 (tables_ok file.path (without_notes file.tokens) each.0 (omega (arith, notes_size file.tokens, read.0.small)) each.2) (all_made schema each.1 read.1 each.4))
+
+-- the table of the catalogue
+pub record FromSchema (contents : Contents) : Type 0 where
+  pub table : CreateTable
+  pub made : IsMade table
+  pub holds : contents ≡ catalogue_with table
+
+pub schema_from : (path : List ℕ) (schema : List SourceFile) (contents : Contents) → AllByRecursion IsRead schema → catalogue_of path schema ≡ Ok contents → FromSchema contents
+schema_from path schema contents read is =
+    let only = catalogue_ok path (each_judged tables_in schema) contents is in
+    record { table = only.0; made = (all_made schema (only.0 ∷ []) read (each_ok tables_in schema (only.0 ∷ []) only.1)).0; holds = only.2 }
 
 -- the parts of a query's file
 pub record FromText (tokens : List Token) (query : Query) : Type 0 where

@@ -1,16 +1,17 @@
 -- What stands behind the files of an accepted project.
-use Rattle.std.proofs.Common.{◌≡◌, ◌≤◌, ℕ, false, List, [], ◌∷◌, length, Option, None, Some, Result, Ok, Err, refl, sym, ◌∙◌, ap, inl, inr, arith, nat_le}
+use Rattle.std.proofs.Common.{◌≡◌, ◌≤◌, ℕ, ◌+◌, Bool, true, false, if◌then◌else◌, List, [], ◌∷◌, ◌++◌, length, drop, Option, None, Some, Result, Ok, Err, refl, sym, ◌∙◌, ap, subst, inl, inr, arith, nat_le}
+use Rattle.std.specs.List.{AllZip}
 use Rattle.std.specs.Option.{option_map, option_map_or, option_or}
 use Rattle.std.proofs.lemmas.Bool.{cases_Bool, leb-true}
 use Rattle.std.proofs.lemmas.Option.{same_Some}
-use Rattle.sq_base.specs.Files.{bytes_at}
+use Rattle.sq_base.specs.Files.{bytes_at, is_file, is_folder}
 use Rattle.sq_base.specs.declared.file.File.{File}
 use Rattle.sq_base.specs.declared.refusal.Refusal.{Refusal}
 use Rattle.sq_catalog.specs.Contents.{Contents}
 use Rattle.sq_core.specs.Identifiers.{package_name}
 use Rattle.sq_core.specs.Names.{clash}
 use Rattle.sq_core.specs.declared.declaration.ModelDecl.{ModelDecl}
-use Rattle.sq_core.specs.declared.declaration.QuerySig.{QuerySig}
+use Rattle.sq_core.specs.declared.declaration.QueryFile.{QueryFile}
 use Rattle.sq_lexer.specs.TokenList.{token_list}
 use Rattle.sq_syntax.specs.declared.token.Token.{Token}
 use Rattle.sq_run.specs.declared.halt.Finding.{Finding}
@@ -21,13 +22,15 @@ use Rattle.sq_run.specs.declared.configuration.Block.{Block}
 use Rattle.sq_run.specs.declared.configuration.Configuration.{Configuration as Configured}
 use Rattle.sq_run.specs.declared.configuration.Entry.{Entry}
 use Rattle.sq_run.specs.declared.configuration.OptionPair.{OptionPair}
-use Rattle.sq_run.specs.declared.plan.Output.{Output}
-use Rattle.sq_run.specs.declared.plan.Plan.{Plan}
+use Rattle.sq_run.specs.declared.outputs.Output.{Output}
 use Rattle.sq_run.specs.declared.read.Role.{Role}
 use Rattle.sq_run.specs.declared.read.Role.TheVariants.{Configuration, Source}
 use Rattle.sq_run.specs.declared.read.TheConstants.{LIMIT}
+use Rattle.sq_run.specs.declared.sources.SourceFile.{SourceFile}
+use Rattle.sq_run.specs.declared.sources.TheConstants.{MOST_FILES}
 use Rattle.sq_run.specs.declared.statements.CreateTable.{CreateTable}
-use Rattle.sq_run.specs.Asked.{nothing_asked}
+use Rattle.sq_run.specs.Asked.{nothing_asked, gathered, each_judged}
+use Rattle.sq_run.specs.Headline.{IsSource}
 use Rattle.serde_json.specs.Data.{Data}
 use Rattle.sq_run.specs.Configuration.{refused, unless_bad, with_good_outs, read_value}
 use Rattle.sq_run.specs.Json.{json_value}
@@ -36,9 +39,9 @@ use Rattle.sq_run.specs.Outs.{all_entries, same_out, other_writer}
 use Rattle.sq_run.specs.Shape.{bad_key}
 use Rattle.sq_run.specs.Paths.{folder_of}
 use Rattle.sq_run.specs.Judged.{judged}
-use Rattle.sq_run.specs.Project.{checked, whole_file, wanted_file, source, only, output_by, output_in, plan_in, configured_by, configured, configuration_at, catalogue_with, catalogue_by, catalogue_of, with_tokens, models_of, declared, output_files, written, files_by, files_with, judged_bytes, plan_files, planned_files, block_files, all_files, requested}
+use Rattle.sq_run.specs.Project.{not_yet, checked, whole_file, wanted, wanted_file, unless_more, counted, with_tokens, source, sources, output_by, output_of_entry, configured_by, configured, configuration_at, catalogue_with, catalogue_from, catalogue_of, models_of, file_with, file_by, file_of, declared_in, output_files, written, block_files, all_files, requested}
 use Rattle.sq_run.specs.Query.{query_of}
-use Rattle.sq_run.proofs.OkSteps.{bind_some, and_then_ok}
+use Rattle.sq_run.proofs.OkSteps.{and_then_ok, Gathered, gathered_ok, EachOk, each_ok}
 
 same_answer : {A : Type 0} (r : Result A (List Finding)) (x y : A) → r ≡ Ok x → r ≡ Ok y → x ≡ y
 same_answer r x y one other = cc (one, other)
@@ -56,77 +59,154 @@ held_ok role path bytes (Some b) is =
     (ap Some whole.0, omega (arith, ap length whole.0, whole.1))
 
 -- a source that was read is held, and not too long
-source_ok : (path bytes : List ℕ) (held : List File) → (source path held).answer ≡ Some (Ok bytes) → (bytes_at held path ≡ Some bytes) × (length bytes ≤ LIMIT)
-source_ok path bytes held is = held_ok Source path bytes (bytes_at held path) (and_then_ok (wanted_file path held) (λ _. whole_file Source path held) bytes is).2
+pub record FromSource (held : List File) (path : List ℕ) (file : SourceFile) : Type 0 where
+  pub bytes : List ℕ
+  pub number : ℕ
+  pub at_path : file.path ≡ path
+  pub source_held : bytes_at held path ≡ Some bytes
+  pub fits : length bytes ≤ LIMIT
+  pub listed : token_list number bytes ≡ Ok file.tokens
 
-pub catalogue_ok : (path : List ℕ) (found : Option CreateTable) (contents : Contents) → catalogue_by path found ≡ Ok contents → (table : CreateTable) × (found ≡ Some table) × (contents ≡ catalogue_with table)
-catalogue_ok path None contents is = absurd (cc is)
-catalogue_ok path (Some table) contents is = (table, refl, sym (same_answer _ _ _ refl is))
+pub is_source : (held : List File) (path : List ℕ) (file : SourceFile) → FromSource held path file → IsSource held path file
+is_source held path file from = record { bytes = from.bytes; number = from.number; at_path = from.at_path; source_held = from.source_held; listed = from.listed }
+
+wanted_ok : (path : List ℕ) (held : List File) (own : List (List ℕ)) → wanted path held ≡ Some (Ok own) → own ≡ path ∷ []
+wanted_ok path held own is = by_file (is_file held path) (is_folder held path) is
+  where
+    by_file : (file folder : Bool) → (if file then Some (Ok (path ∷ [])) else (if folder then Some (Err (not_yet Source path ∷ [])) else None)) ≡ Some (Ok own) → own ≡ path ∷ []
+    by_file true folder is = sym (same_answer _ _ _ refl (same_Some _ _ is))
+    by_file false true is = absurd (cc (same_Some _ _ is))
+    by_file false false is = absurd (cc is)
+
+-- the paths that are listed are those that are found
+listed_are : (held : List File) (n : ℕ) (paths found : List (List ℕ)) → Gathered (λ _ path. wanted_file path) held n paths found → found ≡ paths
+listed_are held n [] found is = is
+listed_are held n (path ∷ paths) found each =
+    each.3 ∙ ap (λ (own : List (List ℕ)). own ++ each.1) (wanted_ok path held each.0 each.2) ∙ ap (λ (later : List (List ℕ)). path ∷ later) (listed_are held (n + 1) paths each.1 each.4)
+
+counted_ok : (found few : List (List ℕ)) → counted found ≡ Ok few → few ≡ found
+counted_ok found few is = by_more (drop MOST_FILES found) is
+  where
+    by_more : (more : List (List ℕ)) → unless_more found more ≡ Ok few → few ≡ found
+    by_more [] is = sym (same_answer _ _ _ refl is)
+    by_more (path ∷ more) is = absurd (cc is)
+
+source_ok : (n : ℕ) (path : List ℕ) (held : List File) (own : List SourceFile) → (source n path held).answer ≡ Some (Ok own) → (file : SourceFile) × (own ≡ file ∷ []) × FromSource held path file
+source_ok n path held own is =
+    let read = and_then_ok (whole_file Source path held) _ own is in
+    let whole = held_ok Source path read.0 (bytes_at held path) read.1 in
+    by_tokens read.0 whole.0 whole.1 (token_list n read.0) refl (same_Some _ _ read.2)
+  where
+    by_tokens : (bytes : List ℕ) → bytes_at held path ≡ Some bytes → length bytes ≤ LIMIT → (list : Result (List Token) Refusal) → token_list n bytes ≡ list → with_tokens path list ≡ Ok own → (file : SourceFile) × (own ≡ file ∷ []) × FromSource held path file
+    by_tokens bytes there fits (Err refusal) listed is = absurd (cc is)
+    by_tokens bytes there fits (Ok tokens) listed is = (record { path = path; tokens = tokens }, sym (same_answer _ _ _ refl is), record { bytes = bytes; number = n; at_path = refl; source_held = there; fits = fits; listed = listed })
+
+read_are : (held : List File) (n : ℕ) (paths : List (List ℕ)) (files : List SourceFile) → Gathered source held n paths files → AllZip (FromSource held) paths files
+read_are held n [] files is = subst (AllZip (FromSource held) []) (sym is) tt
+read_are held n (path ∷ paths) files each =
+    let first = source_ok n path held each.0 each.2 in
+    let all : files ≡ first.0 ∷ each.1 = each.3 ∙ ap (λ (own : List SourceFile). own ++ each.1) first.1 in
+    subst (AllZip (FromSource held) (path ∷ paths)) (sym all) (first.2, read_are held (n + 1) paths each.1 each.4)
+
+-- the sources of a key
+pub sources_ok : (held : List File) (paths : List (List ℕ)) (files : List SourceFile) → (sources paths held).answer ≡ Some (Ok files) → AllZip (FromSource held) paths files
+sources_ok held paths files is =
+    let found = and_then_ok (gathered (λ _ path. wanted_file path) 0 paths held) _ files is in
+    let few = and_then_ok (nothing_asked (counted found.0)) _ files found.2 in
+    let same = counted_ok found.0 few.0 (same_Some _ _ few.1) ∙ listed_are held 0 paths found.0 (gathered_ok (λ _ path. wanted_file path) held 0 paths found.0 found.1) in
+    read_are held 0 paths files (gathered_ok source held 0 paths files (subst (λ (ps : List (List ℕ)). (gathered source 0 ps held).answer ≡ Some (Ok files)) same few.2))
+
+-- the output of an entry
+pub record FromEntry (entry : Entry) (output : Output) : Type 0 where
+  pub at_path : output.path ≡ entry.path
+  pub named : output.package_name ≡ package_name entry.options.out
+
+entry_ok : (path : List ℕ) (entry : Entry) (pairs : List OptionPair) (own : List Output) → output_by path entry pairs ≡ Ok own → (output : Output) × (own ≡ output ∷ []) × FromEntry entry output
+entry_ok path entry [] own is = (record { path = entry.path; package_name = package_name entry.options.out }, sym (same_answer _ _ _ refl is), record { at_path = refl; named = refl })
+entry_ok path entry (pair ∷ pairs) own is = absurd (cc is)
+
+pub entries_ok : (path : List ℕ) (entries : List Entry) (outputs : List Output) → EachOk (output_of_entry path) entries outputs → AllZip FromEntry entries outputs
+entries_ok path [] outputs is = subst (AllZip FromEntry []) (sym is) tt
+entries_ok path (entry ∷ entries) outputs each =
+    let first = entry_ok path entry entry.options.pairs each.0 each.2 in
+    let all : outputs ≡ first.0 ∷ each.1 = each.3 ∙ ap (λ (own : List Output). own ++ each.1) first.1 in
+    subst (AllZip FromEntry (entry ∷ entries)) (sym all) (first.2, entries_ok path entries each.1 each.4)
+
+-- the only table of a schema
+pub catalogue_ok : (path : List ℕ) (tables : Result (List CreateTable) (List Finding)) (contents : Contents) → catalogue_from path tables ≡ Ok contents → (table : CreateTable) × (tables ≡ Ok (table ∷ [])) × (contents ≡ catalogue_with table)
+catalogue_ok path (Err findings) contents is = absurd (cc is)
+catalogue_ok path (Ok []) contents is = absurd (cc is)
+catalogue_ok path (Ok (table ∷ [])) contents is = (table, refl, sym (same_answer _ _ _ refl is))
+catalogue_ok path (Ok (table ∷ next ∷ tables)) contents is = absurd (cc is)
+
+-- what a source of queries was judged to be
+pub record FromQuery (contents : Contents) (file : SourceFile) (written : QueryFile) : Type 0 where
+  pub query : Query
+  pub annotated : query_of file.tokens ≡ Some query
+  pub found : Judged
+  pub judges : judged contents query.select ≡ Ok found
+  pub is : written ≡ file_with file.path query found
+
+query_ok : (contents : Contents) (file : SourceFile) (own : List QueryFile) → declared_in contents file ≡ Ok own → (written : QueryFile) × (own ≡ written ∷ []) × FromQuery contents file written
+query_ok contents file own is = by_query (query_of file.tokens) refl is
+  where
+    by_judged : (query : Query) → query_of file.tokens ≡ Some query → (answer : Result Judged Refusal) → judged contents query.select ≡ answer → file_by file.path query answer ≡ Ok own → (written : QueryFile) × (own ≡ written ∷ []) × FromQuery contents file written
+    by_judged query there (Err refusal) judges is = absurd (cc is)
+    by_judged query there (Ok found) judges is = (file_with file.path query found, sym (same_answer _ _ _ refl is), record { query = query; annotated = there; found = found; judges = judges; is = refl })
+
+    by_query : (found : Option Query) → query_of file.tokens ≡ found → file_of contents file.path found ≡ Ok own → (written : QueryFile) × (own ≡ written ∷ []) × FromQuery contents file written
+    by_query None there is = absurd (cc is)
+    by_query (Some query) there is = by_judged query there (judged contents query.select) refl is
+
+pub queries_ok : (contents : Contents) (files : List SourceFile) (written : List QueryFile) → EachOk (declared_in contents) files written → AllZip (FromQuery contents) files written
+queries_ok contents [] written is = subst (AllZip (FromQuery contents) []) (sym is) tt
+queries_ok contents (file ∷ files) written each =
+    let first = query_ok contents file each.0 each.2 in
+    let all : written ≡ first.0 ∷ each.1 = each.3 ∙ ap (λ (own : List QueryFile). own ++ each.1) first.1 in
+    subst (AllZip (FromQuery contents) (file ∷ files)) (sym all) (first.2, queries_ok contents files each.1 each.4)
 
 -- what was laid out for an output
-pub written_ok : (path : List ℕ) (output : Output) (models : List ModelDecl) (queries : List QuerySig) (files : List File) → written path (Some output) models queries ≡ Ok files → (clash models queries ≡ false) × (files ≡ output_files output models queries)
-written_ok path output models queries files is = elim (cases_Bool (clash models queries)) [
+pub written_ok : (path : List ℕ) (models : List ModelDecl) (queries : List QueryFile) (output : Output) (files : List File) → written path models queries output ≡ Ok files → (clash models queries ≡ false) × (files ≡ output_files output models queries)
+written_ok path models queries output files is = elim (cases_Bool (clash models queries)) [
   | inl found ↦ absurd (cc (rw found at is))
   | inr none ↦ (none, sym (same_answer _ _ _ refl (rw none at is)))
 ]
 
-pub written_none : (path : List ℕ) (models : List ModelDecl) (queries : List QuerySig) (files : List File) → written path None models queries ≡ Ok files → files ≡ []
-written_none path models queries files is = sym (same_answer _ _ _ refl is)
-
--- a judged query of an accepted project
-pub record FromQuery (path : List ℕ) (plan : Plan) (contents : Contents) (source : List ℕ) (files : List File) : Type 0 where
-  pub tokens : List Token
-  pub listed : token_list 1 source ≡ Ok tokens
-  pub query : Query
-  pub annotated : query_of tokens ≡ Some query
-  pub found : Judged
-  pub judges : judged contents query.select ≡ Ok found
-  pub laid_out : written path plan.output (models_of contents) (declared plan.queries query found ∷ []) ≡ Ok files
-
-query_ok : (path : List ℕ) (plan : Plan) (contents : Contents) (source : List ℕ) (files : List File) → judged_bytes path plan contents source ≡ Ok files → FromQuery path plan contents source files
-query_ok path plan contents source files is = by_tokens (token_list 1 source) refl is
-  where
-    by_judged : (tokens : List Token) → token_list 1 source ≡ Ok tokens → (query : Query) → query_of tokens ≡ Some query → (answer : Result Judged Refusal) → judged contents query.select ≡ answer → files_by path plan contents query answer ≡ Ok files → FromQuery path plan contents source files
-    by_judged tokens listed query there (Err refusal) judges is = absurd (cc is)
-    by_judged tokens listed query there (Ok found) judges is = record { tokens = tokens; listed = listed; query = query; annotated = there; found = found; judges = judges; laid_out = is }
-
-    by_query : (tokens : List Token) → token_list 1 source ≡ Ok tokens → (found : Option Query) → query_of tokens ≡ found → files_with path plan contents found ≡ Ok files → FromQuery path plan contents source files
-    by_query tokens listed None there is = absurd (cc is)
-    by_query tokens listed (Some query) there is = by_judged tokens listed query there (judged contents query.select) refl is
-
-    by_tokens : (list : Result (List Token) Refusal) → token_list 1 source ≡ list → with_tokens plan.queries list (λ tokens. files_with path plan contents (query_of tokens)) ≡ Ok files → FromQuery path plan contents source files
-    by_tokens (Err refusal) listed is = absurd (cc is)
-    by_tokens (Ok tokens) listed is = by_query tokens listed (query_of tokens) refl is
-
--- what an accepted project was made from
-pub record FromPlan (path : List ℕ) (plan : Plan) (held files : List File) : Type 0 where
-  pub schema : List ℕ
-  pub schema_held : bytes_at held plan.schema ≡ Some schema
-  pub schema_fits : length schema ≤ LIMIT
+-- what an accepted block was made from
+pub record FromBlock (path : List ℕ) (block : Block) (held files : List File) : Type 0 where
+  pub outputs : List Output
+  pub has_outputs : each_judged (output_of_entry path) block.entries ≡ Ok outputs
+  pub entries : AllZip FromEntry block.entries outputs
+  pub schema : List SourceFile
+  pub schema_held : AllZip (FromSource held) block.schema schema
   pub contents : Contents
-  pub replays : catalogue_of plan.schema schema ≡ Ok contents
-  pub source : List ℕ
-  pub source_held : bytes_at held plan.queries ≡ Some source
-  pub source_fits : length source ≤ LIMIT
-  pub query : FromQuery path plan contents source files
+  pub replays : catalogue_of path schema ≡ Ok contents
+  pub queries : List SourceFile
+  pub queries_held : AllZip (FromSource held) block.queries queries
+  pub declared : List QueryFile
+  pub judges : AllZip (FromQuery contents) queries declared
+  pub laid_out : EachOk (written path (models_of contents) declared) outputs files
 
-pub plan_from : (path : List ℕ) (plan : Plan) (held files : List File) → (plan_files path plan held).answer ≡ Some (Ok files) → FromPlan path plan held files
-plan_from path plan held files is =
-    let b = and_then_ok (source plan.schema held) _ files is in
-    let c = and_then_ok (nothing_asked (catalogue_of plan.schema b.0)) _ files b.2 in
-    let d = and_then_ok (source plan.queries held) _ files c.2 in
-    let schema = source_ok plan.schema b.0 held b.1 in
-    let query = source_ok plan.queries d.0 held d.1 in
+pub block_from : (path : List ℕ) (block : Block) (held files : List File) → (block_files path block held).answer ≡ Some (Ok files) → FromBlock path block held files
+block_from path block held files is =
+    let a = and_then_ok (nothing_asked (each_judged (output_of_entry path) block.entries)) _ files is in
+    let b = and_then_ok (sources block.schema held) _ files a.2 in
+    let c = and_then_ok (nothing_asked (catalogue_of path b.0)) _ files b.2 in
+    let d = and_then_ok (sources block.queries held) _ files c.2 in
+    let e = and_then_ok (nothing_asked (each_judged (declared_in c.0) d.0)) _ files d.2 in
     record {
+      outputs = a.0;
+      has_outputs = same_Some _ _ a.1;
+      entries = entries_ok path block.entries a.0 (each_ok (output_of_entry path) block.entries a.0 (same_Some _ _ a.1));
       schema = b.0;
-      schema_held = schema.0;
-      schema_fits = schema.1;
+      schema_held = sources_ok held block.schema b.0 b.1;
       contents = c.0;
       replays = same_Some _ _ c.1;
-      source = d.0;
-      source_held = query.0;
-      source_fits = query.1;
-      query = query_ok path plan c.0 d.0 files (same_Some _ _ d.2);
+      queries = d.0;
+      queries_held = sources_ok held block.queries d.0 d.1;
+      declared = e.0;
+      judges = queries_ok c.0 d.0 e.0 (each_ok (declared_in c.0) d.0 e.0 (same_Some _ _ e.1));
+      laid_out = each_ok (written path (models_of c.0) e.0) a.0 files (same_Some _ _ e.2);
     }
 
 -- what an accepted run was made from
@@ -150,64 +230,6 @@ accepted_from path held files is =
       configures = same_Some _ _ c.2;
       made = b.1 ∙ ap (λ (fs : List File). Some (Ok fs)) same;
     }
-
--- an accepted block has a plan, and its files
-pub record FromBlock (path : List ℕ) (block : Block) (held files : List File) : Type 0 where
-  pub plan : Plan
-  pub planned : plan_in block ≡ Some plan
-  pub from : FromPlan path plan held files
-
-pub block_from : (path : List ℕ) (block : Block) (held files : List File) → (block_files path block held).answer ≡ Some (Ok files) → FromBlock path block held files
-block_from path block held files is = by_plan (plan_in block) refl is
-  where
-    by_plan : (found : Option Plan) → plan_in block ≡ found → (planned_files path found held).answer ≡ Some (Ok files) → FromBlock path block held files
-    by_plan None there is = absurd (cc (same_Some _ _ is))
-    by_plan (Some plan) there is = record { plan = plan; planned = there; from = plan_from path plan held files is }
-
--- the output of an entry, of which it is the only one
-pub record FromEntry (entries : List Entry) (output : Output) : Type 0 where
-  pub entry : Entry
-  pub only_one : entries ≡ entry ∷ []
-  pub at_path : output.path ≡ entry.path
-  pub named : output.package_name ≡ package_name entry.options.out
-
-entry_ok : (entry : Entry) (pairs : List OptionPair) (output : Output) → output_by entry pairs ≡ Some output → FromEntry (entry ∷ []) output
-entry_ok entry [] output is = record { entry = entry; only_one = refl; at_path = ap (λ (o : Output). o.path) (sym (same_Some _ _ is)); named = ap (λ (o : Output). o.package_name) (sym (same_Some _ _ is)) }
-entry_ok entry (pair ∷ pairs) output is = absurd (cc is)
-
-entries_ok : (entries : List Entry) (output : Output) → output_in entries ≡ Some (Some output) → FromEntry entries output
-entries_ok [] output is = absurd (cc (same_Some _ _ is))
-entries_ok (entry ∷ []) output is = by_output (output_by entry entry.options.pairs) refl is
-  where
-    by_output : (found : Option Output) → output_by entry entry.options.pairs ≡ found → option_map Some found ≡ Some (Some output) → FromEntry (entry ∷ []) output
-    by_output None there is = absurd (cc is)
-    by_output (Some o) there is = entry_ok entry entry.options.pairs output (there ∙ same_Some _ _ is)
-entries_ok (entry ∷ next ∷ entries) output is = absurd (cc is)
-
-no_entries : (entries : List Entry) → output_in entries ≡ Some None → entries ≡ []
-no_entries [] is = refl
-no_entries (entry ∷ []) is = by_output (output_by entry entry.options.pairs) is
-  where
-    by_output : (found : Option Output) → option_map Some found ≡ Some None → entry ∷ [] ≡ []
-    by_output None is = absurd (cc is)
-    by_output (Some o) is = absurd (cc (same_Some _ _ is))
-no_entries (entry ∷ next ∷ entries) is = absurd (cc is)
-
-plan_output : (block : Block) (plan : Plan) → plan_in block ≡ Some plan → output_in block.entries ≡ Some plan.output
-unfolding plan_in
-plan_output block plan is =
-    let schema = bind_some (only block.schema) _ plan is in
-    let queries = bind_some (only block.queries) _ plan schema.2 in
-    let found = bind_some (output_in block.entries) _ plan queries.2 in
-    found.1 ∙ ap (λ (p : Plan). Some p.output) (same_Some _ _ found.2)
-
--- a plan's output is that of the block's only entry
-pub entry_from : (block : Block) (plan : Plan) (output : Output) → plan_in block ≡ Some plan → plan.output ≡ Some output → FromEntry block.entries output
-entry_from block plan output is has = entries_ok block.entries output (plan_output block plan is ∙ ap Some has)
-
--- without an output the block has no entry
-pub entries_none : (block : Block) (plan : Plan) → plan_in block ≡ Some plan → plan.output ≡ None → block.entries ≡ []
-entries_none block plan is has = no_entries block.entries (plan_output block plan is ∙ ap Some has)
 
 -- no two outputs of a configuration are in one folder
 pub outs_apart : (path bytes : List ℕ) (blocks : List Block) → configured path bytes ≡ Ok blocks → same_out (all_entries blocks) ≡ None

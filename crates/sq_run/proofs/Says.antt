@@ -1,9 +1,9 @@
--- What the files of one block say.
-use Rattle.std.proofs.Common.{◌≡◌, ◌≢◌, ◌<◌, ◌^◌, ℕ, zero, suc, ◌&&◌, ◌||◌, ◌==◌, true, false, List, [], ◌∷◌, ◌++◌, length, map, take, drop, nat_eq, nat_le, Option, None, Some, Ok, refl, sym, ◌∙◌, ap, subst, inl, inr, arith, slice_get}
+-- What the files of a block say.
+use Rattle.std.proofs.Common.{◌≡◌, ◌≢◌, ◌<◌, ◌^◌, ℕ, zero, suc, ◌&&◌, ◌==◌, true, false, List, [], ◌∷◌, ◌++◌, length, map, take, drop, nat_eq, nat_le, Option, None, Some, Ok, refl, sym, ◌∙◌, ap, subst, inl, inr, arith, slice_get}
 use Rattle.std.specs.Prelude.{codes}
-use Rattle.std.specs.List.{AllByRecursion, AllZip, list_all}
+use Rattle.std.specs.List.{AllByRecursion, AllZip, list_all, list_any, flat_map}
 use Rattle.std.proofs.lemmas.Bool.{cases_Bool, eqb-true}
-use Rattle.std.proofs.lemmas.List.{append-nil, length-map}
+use Rattle.std.proofs.lemmas.List.{append-nil}
 use Rattle.std.proofs.lemmas.Option.{same_Some}
 use Rattle.sq_catalog.specs.Contents.{Contents}
 use Rattle.sq_catalog.specs.declared.table.Column.{Column as TableColumn}
@@ -11,40 +11,44 @@ use Rattle.sq_catalog.specs.declared.table.Table.{Table}
 use Rattle.sq_core.specs.Answer.{Answer, Gives, Fault, Stuck, AnswerKeeps}
 use Rattle.sq_core.specs.Identifiers.{constant_name, model_identifier, package_name}
 use Rattle.sq_core.specs.Layout as layout
-use Rattle.sq_core.specs.Names.{clash, has_equal, top_level, methods, file_names}
+use Rattle.sq_core.specs.Names.{clash, has_equal}
 use Rattle.sq_core.specs.Run.{Rows, run}
 use Rattle.sq_core.specs.Signature.{fields, shown, shown_columns}
 use Rattle.sq_core.specs.Sound.{IsTyped, NeverStuck, AnswerFits, Prints, ShowsColumns, select as select_core}
 use Rattle.sq_core.specs.Words.{is_word}
 use Rattle.sq_core.specs.declared.declaration.ModelDecl.{ModelDecl}
+use Rattle.sq_core.specs.declared.declaration.QueryFile.{QueryFile}
 use Rattle.sq_core.specs.declared.declaration.QuerySig.{QuerySig}
 use Rattle.sq_core.specs.declared.node.CoreStatement.{CoreStatement}
 use Rattle.sq_core.specs.declared.node.Node.{Node}
 use Rattle.sq_core.specs.declared.signature.Language.TheVariants.{Go}
 use Rattle.sq_core.specs.declared.signature.Output.{Output as OutputColumn}
 use Rattle.sq_core.specs.declared.signature.Param.{Param}
+use Rattle.sq_core.specs.declared.signature.Shown.{Shown}
 use Rattle.sq_core.specs.declared.signature.ShownField.{ShownField}
-use Rattle.sq_reader.specs.Readable.{IsReadable, IsModelled, is_run}
+use Rattle.sq_reader.specs.Readable.{IsReadable, IsReadableModel, IsReadableQuery, IsReadableFile, model_with, is_run}
 use Rattle.sq_reader.specs.Reading.{Reads}
 use Rattle.sq_reader.specs.declared.parts.Class.TheVariants.{Word}
 use Rattle.sq_run.specs.declared.judge.Judged.{Judged}
 use Rattle.sq_run.specs.declared.query.Query.{Query}
+use Rattle.sq_run.specs.declared.sources.SourceFile.{SourceFile}
 use Rattle.sq_run.specs.declared.statements.CreateTable.{CreateTable}
 use Rattle.sq_run.specs.Headline.{ReturnsFit, RunsAsPrinted, SaysQuery}
 use Rattle.sq_run.specs.Judged.{judged, judged_names, output_of, model_used, are_all_columns, have_names}
 use Rattle.sq_run.specs.Project.{catalogue_with, models_of, model_of, file_name, declared}
 use Rattle.sq_run.specs.Names.{is_identifier}
-use Rattle.sq_run.specs.Statements.{create_table}
+use Rattle.sq_run.specs.Query.{query_of}
 use Rattle.sq_lexer.specs.Printed.{spelling, printed, AreSimple}
 use Rattle.sq_lexer.specs.Respelling.{ListedAs}
 use Rattle.sq_lexer.specs.TokenList.{token_list}
 use Rattle.sq_syntax.specs.Tokens.{has_mark}
 use Rattle.sq_syntax.specs.declared.token.Token.{Token}
 use Rattle.sq_run.proofs.FirstTypes.{HasFirst, ShowsFirst, IsFirstTable, table_first, names_show, columns_print}
-use Rattle.sq_run.proofs.Models.{ComesFrom, names_size, names_come, some_outputs, all_outputs, both, either_none}
+use Rattle.sq_run.proofs.Models.{ComesFrom, names_size, names_come, some_outputs, all_outputs, both}
 use Rattle.sq_run.proofs.Placeless.{same_judged}
-use Rattle.sq_run.proofs.FileNames.{IsApart, names_apart, no_last_part, no_slash}
-use Rattle.sq_run.proofs.Origins.{FromText, table_from}
+use Rattle.sq_run.proofs.FileNames.{IsApart, files_apart, is_slash, no_last_part, no_slash}
+use Rattle.sq_run.proofs.Origins.{IsRead, IsMade, FromSchema, FromText, FromTable, query_from, table_from}
+use Rattle.sq_run.proofs.Plans.{FromQuery}
 use Rattle.sq_run.proofs.Readables.{columns_form, all_fields_form, fields_spelled, model_stands, own_stands, row_spelled, word_run}
 use Rattle.sq_run.proofs.Simple.{query_simple, query_unmarked}
 
@@ -52,7 +56,7 @@ use Rattle.sq_run.proofs.Simple.{query_simple, query_unmarked}
 pub record Laws : Type 0 where
   pub sound : (contents : Contents) (params : List Param) (core : CoreStatement) (outputs : List OutputColumn) → IsTyped contents core outputs → NeverStuck contents params core outputs
   pub typed : (contents : Contents) (place : ℕ) (nodes : List Node) (outputs : List OutputColumn) → ShowsColumns contents place nodes outputs → IsTyped contents (select_core place nodes) outputs
-  pub read : (package_name : List ℕ) (model : ModelDecl) (query : QuerySig) → IsReadable package_name model query → Reads (layout.layout package_name (model ∷ []) (query ∷ [])) (shown query.signature ∷ [])
+  pub read : (package_name : List ℕ) (models : List ModelDecl) (files : List QueryFile) → IsReadable package_name models files → Reads (layout.layout package_name models files) (map (λ (query : QuerySig). shown query.signature) (layout.queries_of files))
   pub models : (schema name : List ℕ) → is_word (model_identifier schema name) ≡ true
   pub constants : (query : List ℕ) → is_word query ≡ true → is_word (constant_name query) ≡ true
   pub packages : (out : List ℕ) → is_word (package_name out) ≡ true
@@ -105,9 +109,13 @@ model_named model (Some wanted) identifier is = elim (cases_Bool (nat_eq model.i
   | inr other ↦ absurd (cc (rw other at is))
 ]
 
-modelled_by : (model : Option (List ℕ)) (columns wanted : List ShownField) → ((identifier : List ℕ) → model ≡ Some identifier → columns ≡ wanted) → IsModelled model columns wanted
-modelled_by None columns wanted same = tt
-modelled_by (Some identifier) columns wanted same = same identifier refl
+-- the only model is the one that is found
+model_found : (model found : ModelDecl) (id : Option ℕ) → model_with (model ∷ []) id ≡ Some found → (found ≡ model) × (layout.model_of (model ∷ []) id ≡ Some (layout.model_name model))
+model_found model found None is = absurd (cc is)
+model_found model found (Some wanted) is = elim (cases_Bool (nat_eq model.id wanted)) [
+  | inl same ↦ (sym (same_Some _ _ (rw same at is)), rw same refl)
+  | inr other ↦ absurd (cc (rw other at is))
+]
 
 -- a model is used only for all its columns
 used_whole : (table : Table) (outputs : List OutputColumn) (model : ModelDecl) (identifier : List ℕ) → layout.model_of (model ∷ []) (model_used table outputs) ≡ Some identifier → (nat_le 2 (length outputs) ≡ true) × (are_all_columns outputs table.columns ≡ true)
@@ -116,94 +124,185 @@ used_whole table outputs model identifier is = elim (cases_Bool (nat_le 2 (lengt
   | inr none ↦ absurd (cc (rw none at is))
 ]
 
--- the file of the queries is none of the package's own
-pub file_apart : (models : List ModelDecl) (query : QuerySig) → clash models (query ∷ []) ≡ false → IsApart (layout.query_path query.source)
-file_apart models query none =
-    names_apart (layout.query_path query.source) (either_none (has_equal (top_level models (query ∷ [])) || has_equal (methods (query ∷ []))) (has_equal (file_names (query ∷ []))) none).1
+-- the printed text of a query has its tokens again
+respelled : (laws : Laws) (number : ℕ) (source : List ℕ) (tokens : List Token) → token_list number source ≡ Ok tokens → (query : Query) → (text : FromText tokens query) → ListedAs 1 (printed text.statement) (map spelling text.statement)
+respelled laws number source tokens listed query text =
+    subst (λ (ts : List Token). ListedAs 1 (printed ts) (map spelling ts)) (sym text.stretch)
+    (laws.again number source tokens 1 text.count 1 listed (subst AreSimple text.stretch (query_simple text.statement query.select text.reads))
+    (subst (λ (ts : List Token). has_mark (printed ts) ≡ false) text.stretch (query_unmarked text.statement query.select text.reads)))
 
-module _ (laws : Laws) (own_package path : List ℕ) (table : Table) (query : Query) (outputs : List OutputColumn) where
-  -- what is shown of a query whose model is used
-  shown_whole : IsFirstTable table.columns → AllByRecursion (ComesFrom table.columns) outputs → (identifier : List ℕ) → layout.model_of (model_of table ∷ []) (model_used table outputs) ≡ Some identifier
-      → shown_columns outputs ≡ fields (map output_of table.columns)
-  shown_whole first come identifier is =
-      let used = used_whole table outputs (model_of table) identifier is in
-      let whole = both (length outputs == length table.columns) (have_names outputs table.columns) used.1 in
-      several_shown outputs used.0 ∙ ap fields (all_outputs table.columns first.apart outputs come (eqb-true (length outputs) (length table.columns) whole.0) whole.1)
+-- the shown signatures of all queries
+abbrev pub signatures_of : List QueryFile → List Shown
+signatures_of files = map (λ (query : QuerySig). shown query.signature) (layout.queries_of files)
 
-  readable : (found : Judged) → found.columns ≡ outputs → found.model ≡ model_used table outputs → IsFirstTable table.columns → AllByRecursion (ComesFrom table.columns) outputs → AllByRecursion ShowsFirst outputs → outputs ≢ []
-      → length outputs < 2 ^ 64 → length table.columns < 2 ^ 64 → is_identifier query.name ≡ true → is_word own_package ≡ true → clash (model_of table ∷ []) (declared path query found ∷ []) ≡ false → IsReadable own_package (model_of table) (declared path query found)
-  readable found columns model first come types some few_outputs few_columns named package_word apart =
+-- the queries of a file can be read again
+abbrev HasReadable : List ModelDecl → QueryFile → Type 0
+HasReadable models file = AllByRecursion (IsReadableQuery models (layout.query_imports models file.queries)) file.queries
+
+-- what the sources of a block say, and what is written for them
+pub record Said (contents : Contents) (files : List SourceFile) (written : List QueryFile) : Type 0 where
+  pub says : AllZip (SaysQuery contents) files (signatures_of written)
+  pub reads : (own_package : List ℕ) → is_word own_package ≡ true → clash (models_of contents) written ≡ false → Reads (layout.layout own_package (models_of contents) written) (signatures_of written)
+
+-- a file of queries is named after its source
+abbrev pub IsNamed : QueryFile → Type 0
+IsNamed file = (path : List ℕ) × (file.source ≡ file_name path)
+
+pub all_named : (contents : Contents) (files : List SourceFile) (written : List QueryFile) → AllZip (FromQuery contents) files written → AllByRecursion IsNamed written
+all_named contents [] [] from = tt
+all_named contents [] (w ∷ written) from = absurd from
+all_named contents (file ∷ files) [] from = absurd from
+all_named contents (file ∷ files) (w ∷ written) from = ((file.path, ap (λ (x : QueryFile). x.source) from.0.is), all_named contents files written from.1)
+
+readable_files : (models : List ModelDecl) (files : List QueryFile) → AllByRecursion IsNamed files → AllByRecursion (λ (file : QueryFile). IsApart (layout.query_path file.source)) files → AllByRecursion (HasReadable models) files → AllByRecursion (IsReadableFile models) files
+readable_files models [] named apart each = tt
+readable_files models (file ∷ files) named apart each =
+    let slash : list_any is_slash file.source ≡ false = rw named.0.1 (no_slash named.0.0) in (
+      record {
+        no_database = no_last_part (codes "db.go") file.source slash apart.0.database;
+        no_models = no_last_part (codes "models.go") file.source slash apart.0.models;
+        each_query = each.0;
+      },
+      readable_files models files named.1 apart.1 each.1,
+    )
+
+module _ (laws : Laws) (made : CreateTable) (is_made : IsMade made) where
+  abbrev contents : Contents
+  contents = catalogue_with made
+
+  abbrev the_table : Table
+  the_table = record { id = 0; schema = codes "public"; name = made.name; columns = made.columns; key = None }
+
+  abbrev model : ModelDecl
+  model = model_of the_table
+
+  few_columns : length made.columns < 2 ^ 64
+  few_columns = omega (arith, is_made.small)
+
+  first : IsFirstTable made.columns
+  first = table_first is_made.statement made is_made.reads
+
+  -- a query with these outputs can be read again
+  readable_as : (query : Query) (found : Judged) (outputs : List OutputColumn) → found.columns ≡ outputs → found.model ≡ model_used the_table outputs → is_identifier query.name ≡ true → AllByRecursion ShowsFirst outputs → outputs ≢ [] → length outputs < 2 ^ 64
+      → ((other : ModelDecl) → model_with (model ∷ []) (model_used the_table outputs) ≡ Some other → shown_columns outputs ≡ fields other.columns) → IsReadableQuery (model ∷ []) (layout.query_imports (model ∷ []) (declared query found ∷ [])) (declared query found)
+  readable_as query found outputs columns_is model_is named types some few whole =
       let word : is_word query.name ≡ true = identifier_word query.name named in
       let forms = columns_form outputs types in
-      let fields_first = all_fields_form (map output_of table.columns) (map_first table.columns first.types) in
-      let id = layout.model_of (model_of table ∷ []) (model_used table outputs) in
+      let id = layout.model_of (model ∷ []) (model_used the_table outputs) in
       let row_word = word_run (query.name ++ codes "Row") (laws.rows query.name word) in
-      let names = file_apart (model_of table ∷ []) (declared path query found) apart in
-      let model_word = word_run (layout.model_name (model_of table)) (laws.models (model_of table).schema _) in
+      let model_word = word_run (layout.model_name model) (laws.models model.schema _) in
       record {
-        package_word = word_run own_package package_word;
-        model_word = model_word;
         query_word = word_run query.name word;
         constant_word = word_run (constant_name query.name) (laws.constants query.name word);
         row_word = row_word;
-        row_spelled = rw (columns, model) (row_spelled id query.name (shown_columns outputs) forms row_word (λ identifier is. subst (λ (x : List ℕ). is_run Word x ≡ true) (model_named (model_of table) (model_used table outputs) identifier is) model_word));
-        fields_spelled = fields_spelled (fields (map output_of table.columns)) fields_first (laws.field_words (map output_of table.columns));
-        columns_spelled = rw columns (fields_spelled (shown_columns outputs) forms (laws.column_words outputs));
-        fields_apart = laws.fields_apart (map output_of table.columns) (rw length-map few_columns);
-        columns_apart = rw columns (laws.columns_apart outputs few_outputs);
-        model_types = rw append-nil (model_stands (fields (map output_of table.columns)) fields_first);
-        query_types = rw (columns, model, append-nil) (own_stands id (shown_columns outputs) forms);
+        row_spelled = rw (columns_is, model_is) (row_spelled id query.name (shown_columns outputs) forms row_word (λ identifier is. subst (λ (x : List ℕ). is_run Word x ≡ true) (model_named model (model_used the_table outputs) identifier is) model_word));
+        columns_spelled = rw columns_is (fields_spelled (shown_columns outputs) forms (laws.column_words outputs));
+        columns_apart = rw columns_is (laws.columns_apart outputs few);
+        query_types = rw (columns_is, model_is, append-nil) (own_stands id (shown_columns outputs) forms);
         command = refl;
-        some_column = rw columns (some_shown outputs some);
-        modelled = rw (columns, model) (modelled_by id (shown_columns outputs) (fields (map output_of table.columns)) (shown_whole first come));
-        no_clash = apart;
-        no_database = no_last_part (codes "db.go") (file_name path) (no_slash path) names.database;
-        no_models = no_last_part (codes "models.go") (file_name path) (no_slash path) names.models;
+        some_column = rw columns_is (some_shown outputs some);
+        modelled = rw (columns_is, model_is) whole;
       }
 
--- the printed text of a query has its tokens again
-respelled : (laws : Laws) (source : List ℕ) (tokens : List Token) → token_list 1 source ≡ Ok tokens → (query : Query) → (text : FromText tokens query) → ListedAs 1 (printed text.statement) (map spelling text.statement)
-respelled laws source tokens listed query text =
-    subst (λ (ts : List Token). ListedAs 1 (printed ts) (map spelling ts)) (sym text.stretch)
-    (laws.again 1 source tokens 1 text.count 1 listed (subst AreSimple text.stretch (query_simple text.statement query.select text.reads))
-    (subst (λ (ts : List Token). has_mark (printed ts) ≡ false) text.stretch (query_unmarked text.statement query.select text.reads)))
+  -- a judged query that was read
+  module _ (file : SourceFile) (read : IsRead file) (query : Query) (annotated : query_of file.tokens ≡ Some query) (found : Judged) (judges : judged contents query.select ≡ Ok found) where
+    text : FromText file.tokens query
+    text = query_from file.tokens query annotated
 
--- what a judged query over one table says, by where its parts come from
-says_query : (laws : Laws) (own_package path : List ℕ) → is_word own_package ≡ true → (made : CreateTable) (statement : List Token) → create_table statement ≡ Some made → length made.columns < 2 ^ 64 → (source : List ℕ) (tokens : List Token) → token_list 1 source ≡ Ok tokens → length tokens < 2 ^ 64
-    → (query : Query) → FromText tokens query → (found : Judged) → judged (catalogue_with made) query.select ≡ Ok found → clash (models_of (catalogue_with made)) (declared path query found ∷ []) ≡ false
-    → SaysQuery (catalogue_with made) path query (layout.layout own_package (models_of (catalogue_with made)) (declared path query found ∷ []))
-says_query laws own_package path package_word made statement reads few source tokens listed small query text found judges apart =
-    let contents = catalogue_with made in
-    let from = table_from contents query.select found judges in
-    let the_table : Table = record { id = 0; schema = codes "public"; name = made.name; columns = made.columns; key = None } in
-    let only : from.table ≡ the_table = only_table the_table from.table from.place from.there in
-    let columns_is : found.columns ≡ from.columns.1 = ap (λ (j : Judged). j.columns) from.is in
-    let model_is : found.model ≡ model_used the_table from.columns.1 = ap (λ (j : Judged). j.model) from.is ∙ ap (λ (t : Table). model_used t from.columns.1) only in
-    let core_is : found.core ≡ select_core from.place from.columns.0 = ap (λ (j : Judged). j.core) from.is in
-    let first : IsFirstTable made.columns = table_first statement made reads in
-    let names = subst (λ (t : Table). judged_names t query.select.outputs ≡ Ok from.columns) only from.judges in
-    let there = subst (λ (t : Table). slice_get contents.tables from.place ≡ Some t) only from.there in
-    let shows = names_show the_table query.select.outputs from.columns first.types names in
-    let come = names_come the_table query.select.outputs from.columns names in
-    let count = names_size the_table query.select.outputs from.columns names in
-    let some = some_outputs the_table query.select.outputs from.columns text.some names in
-    let prints = columns_print from.columns.1 shows.types in
-    let good : IsReadable own_package (model_of the_table) (declared path query found) =
-    readable laws own_package path the_table query from.columns.1 found columns_is model_is first come shows.types some (omega (arith, count, text.small)) few text.named package_word apart in
-    let typed : IsTyped contents (select_core from.place from.columns.0) from.columns.1 = laws.typed contents from.place from.columns.0 from.columns.1 (rw there shows.shows) in
-    let never : NeverStuck contents [] found.core from.columns.1 = subst (λ (core : CoreStatement). NeverStuck contents [] core from.columns.1) (sym core_is) (laws.sound contents [] (select_core from.place from.columns.0) from.columns.1 typed) in
-    let again = respelled laws source tokens listed query text in
-    record {
-      found = found;
-      judges = judges;
-      reads = laws.read own_package (model_of the_table) (declared path query found) good;
-      text = rw (text.text, again.listed) (same_judged contents text.statement again.tokens query.select found again.same text.reads judges);
-      runs = rw columns_is (runs_as_printed contents found.core from.columns.1 (shown_columns from.columns.1) never prints);
-    }
+    from : FromTable contents query.select found
+    from = table_from contents query.select found judges
 
-pub says_over : (laws : Laws) (own_package path : List ℕ) → is_word own_package ≡ true → (contents : Contents) (made : CreateTable) (statement : List Token) → create_table statement ≡ Some made → length made.columns < 2 ^ 64 → contents ≡ catalogue_with made → (source : List ℕ) (tokens : List Token) → token_list 1 source ≡ Ok tokens → length tokens < 2 ^ 64
-    → (query : Query) → FromText tokens query → (found : Judged) → judged contents query.select ≡ Ok found → clash (models_of contents) (declared path query found ∷ []) ≡ false
-    → SaysQuery contents path query (layout.layout own_package (models_of contents) (declared path query found ∷ []))
-says_over laws own_package path package_word contents made statement reads few is source tokens listed small query text found judges apart =
-    subst (λ (c : Contents). SaysQuery c path query (layout.layout own_package (models_of c) (declared path query found ∷ []))) (sym is)
-    (says_query laws own_package path package_word made statement reads few source tokens listed small query text found (subst (λ (c : Contents). judged c query.select ≡ Ok found) is judges) (subst (λ (c : Contents). clash (models_of c) (declared path query found ∷ []) ≡ false) is apart))
+    only : from.table ≡ the_table
+    only = only_table the_table from.table from.place from.there
+
+    abbrev outputs : List OutputColumn
+    outputs = from.columns.1
+
+    columns_is : found.columns ≡ outputs
+    columns_is = ap (λ (j : Judged). j.columns) from.is
+
+    model_is : found.model ≡ model_used the_table outputs
+    model_is = ap (λ (j : Judged). j.model) from.is ∙ ap (λ (t : Table). model_used t outputs) only
+
+    core_is : found.core ≡ select_core from.place from.columns.0
+    core_is = ap (λ (j : Judged). j.core) from.is
+
+    names : judged_names the_table query.select.outputs ≡ Ok from.columns
+    names = subst (λ (t : Table). judged_names t query.select.outputs ≡ Ok from.columns) only from.judges
+
+    there : slice_get contents.tables from.place ≡ Some the_table
+    there = subst (λ (t : Table). slice_get contents.tables from.place ≡ Some t) only from.there
+
+    come : AllByRecursion (ComesFrom made.columns) outputs
+    come = names_come the_table query.select.outputs from.columns names
+
+    -- what is shown of a query whose model is used
+    shown_whole : (other : ModelDecl) → model_with (model ∷ []) (model_used the_table outputs) ≡ Some other → shown_columns outputs ≡ fields other.columns
+    shown_whole other is =
+        let same = model_found model other (model_used the_table outputs) is in
+        let used = used_whole the_table outputs model (layout.model_name model) same.1 in
+        let whole = both (length outputs == length made.columns) (have_names outputs made.columns) used.1 in
+        several_shown outputs used.0 ∙ ap fields (all_outputs made.columns first.apart outputs come (eqb-true (length outputs) (length made.columns) whole.0) whole.1) ∙ ap (λ (m : ModelDecl). fields m.columns) (sym same.0)
+
+    said : SaysQuery contents file (shown (declared query found).signature)
+    said =
+        let shows = names_show the_table query.select.outputs from.columns first.types names in
+        let prints = columns_print outputs shows.types in
+        let typed : IsTyped contents (select_core from.place from.columns.0) outputs = laws.typed contents from.place from.columns.0 outputs (rw there shows.shows) in
+        let never : NeverStuck contents [] found.core outputs = subst (λ (core : CoreStatement). NeverStuck contents [] core outputs) (sym core_is) (laws.sound contents [] (select_core from.place from.columns.0) outputs typed) in
+        let again = respelled laws read.number read.bytes file.tokens read.listed query text in
+        record {
+          query = query;
+          found = found;
+          annotated = annotated;
+          judges = judges;
+          shows = refl;
+          text = rw (text.text, again.listed) (same_judged contents text.statement again.tokens query.select found again.same text.reads judges);
+          runs = rw columns_is (runs_as_printed contents found.core outputs (shown_columns outputs) never prints);
+        }
+
+    readable : IsReadableQuery (model ∷ []) (layout.query_imports (model ∷ []) (declared query found ∷ [])) (declared query found)
+    readable =
+        let count = names_size the_table query.select.outputs from.columns names in
+        readable_as query found outputs columns_is model_is text.named (names_show the_table query.select.outputs from.columns first.types names).types (some_outputs the_table query.select.outputs from.columns text.some names)
+        (omega (arith, count, text.small, read.small)) shown_whole
+
+  model_readable : IsReadableModel (layout.sql_import (flat_map layout.model_forms (model ∷ []))) model
+  model_readable =
+      let columns = map output_of made.columns in
+      let forms = all_fields_form columns (map_first made.columns first.types) in
+      record {
+        model_word = word_run (layout.model_name model) (laws.models model.schema _);
+        fields_spelled = fields_spelled (fields columns) forms (laws.field_words columns);
+        model_types = rw append-nil (model_stands (fields columns) forms);
+      }
+
+  all_said : (files : List SourceFile) (written : List QueryFile) → AllByRecursion IsRead files → AllZip (FromQuery contents) files written → AllZip (SaysQuery contents) files (signatures_of written) × AllByRecursion (HasReadable (model ∷ [])) written
+  all_said [] [] read from = (tt, tt)
+  all_said [] (w ∷ written) read from = absurd from
+  all_said (file ∷ files) [] read from = absurd from
+  all_said (file ∷ files) (w ∷ written) read from =
+      let one = from.0 in
+      let later = all_said files written read.1 from.1 in
+      let says = said file read.0 one.query one.annotated one.found one.judges in
+      let reads = readable file read.0 one.query one.annotated one.found one.judges in
+      subst (λ (x : QueryFile). AllZip (SaysQuery contents) (file ∷ files) (signatures_of (x ∷ written)) × AllByRecursion (HasReadable (model ∷ [])) (x ∷ written)) (sym one.is) ((says, later.0), ((reads, tt), later.1))
+
+  says_first : (files : List SourceFile) (written : List QueryFile) → AllByRecursion IsRead files → AllZip (FromQuery contents) files written → Said contents files written
+  says_first files written read from =
+      let all = all_said files written read from in
+      record {
+        says = all.0;
+        reads = λ own_package word apart.
+            laws.read own_package (model ∷ []) written (record {
+              package_word = word_run own_package word;
+              each_model = (model_readable, tt);
+              each_file = readable_files (model ∷ []) written (all_named contents files written from) (files_apart (model ∷ []) written apart) all.1;
+              no_clash = apart;
+            });
+      }
+
+-- what the sources of a block say, and what is written for them
+pub says_over : (laws : Laws) (contents : Contents) → FromSchema contents → (files : List SourceFile) (written : List QueryFile) → AllByRecursion IsRead files → AllZip (FromQuery contents) files written → Said contents files written
+says_over laws contents schema files written read =
+    subst (λ (c : Contents). AllZip (FromQuery c) files written → Said c files written) (sym schema.holds) (says_first laws schema.table schema.made files written read)

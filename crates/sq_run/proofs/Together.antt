@@ -10,13 +10,11 @@ use Rattle.std.proofs.lemmas.Option.{IfSome_then}
 use Rattle.sq_base.specs.Counts.{raised_by}
 use Rattle.sq_base.specs.Tree.{TreeState}
 use Rattle.sq_base.specs.declared.file.File.{File}
-use Rattle.sq_run.specs.declared.configuration.Block.{Block}
 use Rattle.sq_run.specs.declared.halt.Finding.{Finding}
 use Rattle.sq_run.specs.declared.halt.Halt.{Halt}
 use Rattle.sq_run.specs.declared.halt.Halt.TheVariants.{Usage, Refused, Missing, Failed, Memory}
-use Rattle.sq_run.specs.Asked.{Asked, and_also, joined, ended_with, ComesTo, HaltsRun, Follows, Answered, Ends, IsFront, CountsFault, CountsMissing}
+use Rattle.sq_run.specs.Asked.{Asked, and_also, gathered, joined, ended_with, ComesTo, HaltsRun, Follows, Answered, Ends, IsFront, CountsFault, CountsMissing}
 use Rattle.sq_run.specs.Asked.{Joins}
-use Rattle.sq_run.specs.Project.{block_files, all_files}
 use Rattle.sq_run.proofs.Steps.{calls_joined, ends_later, if_told_both, judged_follows}
 
 -- what was joined before comes first
@@ -199,46 +197,46 @@ also_stopped part more old new first Memory follows halts = record {
   asked = IfSome_then old.files follows.asked (λ files one. record { made = one.made; ends = more_asked (part files) (more files) one.made (front_of (part files) one.made first one.ends); calls = one.calls });
 }
 
--- what is left of blocks begins with the next one
-next_block : (blocks : List Block) (at : ℕ) (block : Block) → at < length blocks → block ≡ get_or blocks at block → drop at blocks ≡ block ∷ drop (at + 1) blocks
-next_block blocks at block within is = drop-cons blocks at block within ∙ (λ i. sym is i ∷ drop (sym (add-one at) i) blocks)
+-- what is left of a list begins with the next item
+pub next_item : {A : Type 0} (xs : List A) (at : ℕ) (x : A) → at < length xs → x ≡ get_or xs at x → drop at xs ≡ x ∷ drop (at + 1) xs
+next_item xs at x within is = drop-cons xs at x within ∙ (λ i. sym is i ∷ drop (sym (add-one at) i) xs)
 
-module _ (path : List ℕ) (blocks : List Block) (at : ℕ) (block : Block) (within : at < length blocks) (is : block ≡ get_or blocks at block) (start old mid : TreeState) (before : Result (List File) (List Finding)) where
-  -- what is judged before the next block, and the blocks from it on, are all blocks
-  abbrev Continues : TreeState → ℕ → Result (List File) (List Finding) → Type 0
-  Continues state i judged = (new : TreeState) (r : Result (List File) Halt) → Follows (all_files path (drop i blocks)) state new r → Follows (all_files path blocks) start new (ended_with judged r)
+module _ {A B : Type 0} (part : ℕ → A → List File → Asked (List B)) (xs : List A) (at : ℕ) (x : A) (within : at < length xs) (is : x ≡ get_or xs at x) (start old mid : TreeState) (before : Result (List B) (List Finding)) where
+  -- what is judged before the next item, and the items from it on, are all items
+  abbrev Continues : TreeState → ℕ → Result (List B) (List Finding) → Type 0
+  Continues state i judged = (new : TreeState) (r : Result (List B) Halt) → Follows (gathered part i (drop i xs)) state new r → Follows (gathered part 0 xs) start new (ended_with judged r)
 
-  pub one_more : (first : Result (List File) Halt) (both : Result (List File) (List Finding)) → Continues old at before → Follows (block_files path block) old mid first → Joins before first (Ok both) → Continues mid (at + 1) both
+  pub one_more : (first : Result (List B) Halt) (both : Result (List B) (List Finding)) → Continues old at before → Follows (part at x) old mid first → Joins before first (Ok both) → Continues mid (at + 1) both
   one_more first both goes_on follows joins new r rest =
-      let whole = also_followed (block_files path block) (all_files path (drop (at + 1) blocks)) old mid new first joins.0 r follows joins.1 rest in
-      let here = subst (λ (left : List Block). Follows (all_files path left) old new (ended_with joins.0 r)) (sym (next_block blocks at block within is)) whole in
+      let whole = also_followed (part at x) (gathered part (at + 1) (drop (at + 1) xs)) old mid new first joins.0 r follows joins.1 rest in
+      let here = subst (λ (left : List A). Follows (gathered part at left) old new (ended_with joins.0 r)) (sym (next_item xs at x within is)) whole in
       rw (joins.2, ended_together before joins.0 r) (goes_on new (ended_with joins.0 r) here)
 
-  pub halted : (first : Result (List File) Halt) (halt : Halt) → Continues old at before → Follows (block_files path block) old mid first → Joins before first (Err halt) → Follows (all_files path blocks) start mid (Err halt)
+  pub halted : (first : Result (List B) Halt) (halt : Halt) → Continues old at before → Follows (part at x) old mid first → Joins before first (Err halt) → Follows (gathered part 0 xs) start mid (Err halt)
   halted first halt goes_on follows joins =
-      let whole = also_stopped (block_files path block) (all_files path (drop (at + 1) blocks)) old mid first halt follows joins in
-      let here = subst (λ (left : List Block). Follows (all_files path left) old mid (Err halt)) (sym (next_block blocks at block within is)) whole in
+      let whole = also_stopped (part at x) (gathered part (at + 1) (drop (at + 1) xs)) old mid first halt follows joins in
+      let here = subst (λ (left : List A). Follows (gathered part at left) old mid (Err halt)) (sym (next_item xs at x within is)) whole in
       by_halt halt joins (goes_on mid (Err halt) here)
     where
-      by_halt : (h : Halt) → HaltsRun first h → Follows (all_files path blocks) start mid (ended_with before (Err h)) → Follows (all_files path blocks) start mid (Err h)
-      by_halt Usage halts f = absurd (subst (Follows (block_files path block) old mid) halts follows).faults
+      by_halt : (h : Halt) → HaltsRun first h → Follows (gathered part 0 xs) start mid (ended_with before (Err h)) → Follows (gathered part 0 xs) start mid (Err h)
+      by_halt Usage halts f = absurd (subst (Follows (part at x) old mid) halts follows).faults
       by_halt (Refused findings) halts f = absurd halts
       by_halt (Missing p) halts f = by_before before f
         where
-          by_before : (b : Result (List File) (List Finding)) → Follows (all_files path blocks) start mid (ended_with b (Err (Missing p))) → Follows (all_files path blocks) start mid (Err (Missing p))
-          by_before (Ok files) f = f
+          by_before : (b : Result (List B) (List Finding)) → Follows (gathered part 0 xs) start mid (ended_with b (Err (Missing p))) → Follows (gathered part 0 xs) start mid (Err (Missing p))
+          by_before (Ok items) f = f
           by_before (Err findings) f = f
       by_halt (Failed p) halts f = by_before before f
         where
-          by_before : (b : Result (List File) (List Finding)) → Follows (all_files path blocks) start mid (ended_with b (Err (Failed p))) → Follows (all_files path blocks) start mid (Err (Failed p))
-          by_before (Ok files) f = f
+          by_before : (b : Result (List B) (List Finding)) → Follows (gathered part 0 xs) start mid (ended_with b (Err (Failed p))) → Follows (gathered part 0 xs) start mid (Err (Failed p))
+          by_before (Ok items) f = f
           by_before (Err findings) f = f
       by_halt Memory halts f = by_before before f
         where
-          by_before : (b : Result (List File) (List Finding)) → Follows (all_files path blocks) start mid (ended_with b (Err Memory)) → Follows (all_files path blocks) start mid (Err Memory)
-          by_before (Ok files) f = f
+          by_before : (b : Result (List B) (List Finding)) → Follows (gathered part 0 xs) start mid (ended_with b (Err Memory)) → Follows (gathered part 0 xs) start mid (Err Memory)
+          by_before (Ok items) f = f
           by_before (Err findings) f = f
 
--- no block is left
-pub none_left : (path : List ℕ) (blocks : List Block) (at : ℕ) (state : TreeState) → length blocks ≤ at → Follows (all_files path (drop at blocks)) state state (Ok [])
-none_left path blocks at state past = rw (drop_of_length-le blocks past) (judged_follows (Ok []) state (Ok []) refl)
+-- no item is left
+pub none_left : {A B : Type 0} (part : ℕ → A → List File → Asked (List B)) (xs : List A) (at : ℕ) (state : TreeState) → length xs ≤ at → Follows (gathered part at (drop at xs)) state state (Ok [])
+none_left part xs at state past = rw (drop_of_length-le xs past) (judged_follows (Ok []) state (Ok []) refl)

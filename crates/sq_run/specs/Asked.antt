@@ -1,5 +1,5 @@
 -- What a part of a run asks of the tree, and how a part of a run has ended.
-use Rattle.std.specs.Prelude.{⊤, ◌≡◌, ◌≤◌, ℕ, List, [], ◌∷◌, ◌++◌, length, Option, None, Some, IfSome, Result, Ok, Err}
+use Rattle.std.specs.Prelude.{⊤, ◌≡◌, ◌≤◌, ℕ, ◌+◌, List, [], ◌∷◌, ◌++◌, length, Option, None, Some, IfSome, Result, Ok, Err}
 use Rattle.std.specs.Option.{option_map}
 use Rattle.sq_base.specs.Counts.{raised_by, Rose}
 use Rattle.sq_base.specs.Tree.{TreeState}
@@ -28,7 +28,7 @@ and_then {A} {B} first more = elim first.answer [
   ]
 ]
 
--- the files of two parts, or the findings of both
+-- what two parts give, or the findings of both
 abbrev pub joined : {A : Type 0} → Result (List A) (List Finding) → Result (List A) (List Finding) → Result (List A) (List Finding)
 joined (Ok before) (Ok after) = Ok (before ++ after)
 joined (Ok before) (Err findings) = Err findings
@@ -41,6 +41,16 @@ and_also {A} first more = elim first.answer [
   | None ↦ record { paths = first.paths; answer = None }
   | Some answer ↦ record { paths = first.paths ++ more.paths; answer = option_map (joined {A = A} answer) more.answer }
 ]
+
+-- asks each part in order, whatever the others have answered; the parts are numbered from here on
+abbrev pub gathered : {A B : Type 0} → (ℕ → A → List File → Asked (List B)) → ℕ → List A → List File → Asked (List B)
+gathered part number [] files = nothing_asked (Ok [])
+gathered part number (x ∷ xs) files = and_also (part number x files) (gathered part (number + 1) xs files)
+
+-- what is judged of each, or the findings of all
+abbrev pub each_judged : {A B : Type 0} → (A → Result (List B) (List Finding)) → List A → Result (List B) (List Finding)
+each_judged judge [] = Ok []
+each_judged judge (x ∷ xs) = joined (judge x) (each_judged judge xs)
 
 -- the calls that were made are the first of those asked
 abbrev pub IsFront : List (List ℕ) → List (List ℕ) → Type 0

@@ -1,6 +1,6 @@
--- The headline: what the written files say, and what the query that they hold does on every database.
+-- The headline: what the written files say, and what the queries that they hold do on every database.
 use Rattle.std.specs.Prelude.{◌≡◌, ℕ, List, [], ◌∷◌, map, Option, None, Some, IfSome, Result, Ok, Err, ◌++◌}
-use Rattle.std.specs.List.{AllByRecursion}
+use Rattle.std.specs.List.{AllByRecursion, AllZip}
 use Rattle.sq_base.specs.Counts.{Told}
 use Rattle.sq_base.specs.Files.{bytes_at}
 use Rattle.sq_base.specs.declared.file.File.{File}
@@ -14,21 +14,22 @@ use Rattle.sq_core.specs.Sound.{RowFitsPrinted}
 use Rattle.sq_core.specs.Values.{Database, DatabaseFits}
 use Rattle.sq_core.specs.declared.node.CoreStatement.{CoreStatement}
 use Rattle.sq_core.specs.declared.signature.Language.TheVariants.{Go}
+use Rattle.sq_core.specs.declared.signature.Shown.{Shown}
 use Rattle.sq_core.specs.declared.signature.ShownField.{ShownField}
 use Rattle.sq_lexer.specs.TokenList.{token_list}
 use Rattle.sq_reader.specs.Reading.{Reads}
-use Rattle.sq_syntax.specs.declared.token.Token.{Token}
 use Rattle.sq_run.specs.declared.command_line.Task.TheVariants.{Generate}
 use Rattle.sq_run.specs.declared.configuration.Block.{Block}
 use Rattle.sq_run.specs.declared.judge.Judged.{Judged}
-use Rattle.sq_run.specs.declared.plan.Output.{Output}
-use Rattle.sq_run.specs.declared.plan.Plan.{Plan}
+use Rattle.sq_run.specs.declared.outputs.Output.{Output}
 use Rattle.sq_run.specs.declared.query.Query.{Query}
+use Rattle.sq_run.specs.declared.sources.SourceFile.{SourceFile}
 use Rattle.sq_run.specs.declared.status.Status.{Status}
 use Rattle.sq_run.specs.declared.status.Status.TheVariants.{Done}
+use Rattle.sq_run.specs.Asked.{each_judged}
 use Rattle.sq_run.specs.CommandLine.{request_of}
 use Rattle.sq_run.specs.Judged.{judged}
-use Rattle.sq_run.specs.Project.{plan_in, configured, catalogue_of, declared, placed, task_asked}
+use Rattle.sq_run.specs.Project.{output_of_entry, configured, catalogue_of, declared, placed, task_asked}
 use Rattle.sq_run.specs.Query.{query_of}
 use Rattle.sq_run.specs.Run.{Outside, files_asked}
 use Rattle.sq_run.specs.Statements.{select, ◌>>=◌}
@@ -52,57 +53,55 @@ abbrev pub RunsAsPrinted : Contents → CoreStatement → List ShownField → Ty
 RunsAsPrinted contents core columns =
     (database : Database) (arguments : List ClientValue) → DatabaseFits contents database → ArgumentsFit [] arguments → Keeps (ReturnsFit columns) (run Go contents [] core database arguments)
 
--- Files read as exactly one query of this name, from a file at this path, with this signature, whose text does what the signature says.
-pub record SaysQuery (contents : Contents) (path : List ℕ) (query : Query) (files : List File) : Type 0 where
+-- the files at these paths were read: each is held, and its bytes have these tokens
+pub record IsSource (held : List File) (path : List ℕ) (file : SourceFile) : Type 0 where
+  pub bytes : List ℕ
+  pub number : ℕ
+  pub at_path : file.path ≡ path
+  pub source_held : bytes_at held path ≡ Some bytes
+  pub listed : token_list number bytes ≡ Ok file.tokens
+
+-- A file of queries has exactly one annotated query, and this is its shown signature, whose text does what the signature says.
+pub record SaysQuery (contents : Contents) (file : SourceFile) (signature : Shown) : Type 0 where
+  pub query : Query
   pub found : Judged
+  pub annotated : query_of file.tokens ≡ Some query
   -- the signature is that of the written rules
   pub judges : judged contents query.select ≡ Ok found
-  -- it is what the files read as, and nothing else
-  pub reads : Reads files (shown (declared path query found).signature ∷ [])
+  pub shows : signature ≡ shown (declared query found).signature
   -- the text that is read back is judged to be the same
-  pub text : judged_text contents (shown (declared path query found).signature).text ≡ Some found
+  pub text : judged_text contents signature.text ≡ Some found
   -- and it runs so
-  pub runs : RunsAsPrinted contents found.core (shown (declared path query found).signature).columns
+  pub runs : RunsAsPrinted contents found.core signature.columns
 
--- these files were put for a block with an output
-pub record IsWritten (plan : Plan) (output : Output) (held now put : List File) : Type 0 where
-  pub schema : List ℕ
-  pub source : List ℕ
-  pub contents : Contents
-  pub tokens : List Token
-  pub query : Query
+-- files were put in the output's folder, are held there, and read as exactly these signatures
+pub record IsWritten (signatures : List Shown) (now : List File) (output : Output) (put : List File) : Type 0 where
   pub files : List File
-  -- the schema is held and gives the catalogue
-  pub schema_held : bytes_at held plan.schema ≡ Some schema
-  pub replays : catalogue_of plan.schema schema ≡ Ok contents
-  -- the query's file is held and has the annotated query
-  pub source_held : bytes_at held plan.queries ≡ Some source
-  pub listed : token_list 1 source ≡ Ok tokens
-  pub annotated : query_of tokens ≡ Some query
-  -- the files were put in the output's folder, and are held there
   pub put_there : put ≡ map (placed output.path) files
   pub holds : AllByRecursion (λ (file : File). bytes_at now (placed output.path file).path ≡ Some file.bytes) files
-  pub says : SaysQuery contents plan.queries query files
+  pub reads : Reads files signatures
 
--- what was put for a block: without an output nothing
-abbrev pub IsPutFor : Plan → Option Output → List File → List File → List File → Type 0
-IsPutFor plan None held now put = put ≡ []
-IsPutFor plan (Some output) held now put = IsWritten plan output held now put
+-- what was put is what was put for each of these, in order
+abbrev pub InOrder : {A : Type 0} → (A → List File → Type 0) → List A → List File → Type 0
+InOrder Put [] put = put ≡ []
+InOrder Put (x ∷ xs) put = (own later : List File) × (put ≡ own ++ later) × Put x own × InOrder Put xs later
 
--- of the files that were put, those of a block come first, and then those of the next blocks
-pub record IsPutFirst (Later : List File → Type 0) (block : Block) (held now put : List File) : Type 0 where
-  pub own : List File
-  pub later : List File
-  pub plan : Plan
-  pub split : put ≡ own ++ later
-  pub planned : plan_in block ≡ Some plan
-  pub first : IsPutFor plan plan.output held now own
-  pub others : Later later
-
--- what was put for blocks, in order
-abbrev pub ArePut : List Block → List File → List File → List File → Type 0
-ArePut [] held now put = put ≡ []
-ArePut (block ∷ blocks) held now put = IsPutFirst (ArePut blocks held now) block held now put
+-- what was put for a block of the configuration at this path
+pub record IsBlock (path : List ℕ) (held now : List File) (block : Block) (put : List File) : Type 0 where
+  pub outputs : List Output
+  pub schema : List SourceFile
+  pub contents : Contents
+  pub queries : List SourceFile
+  pub signatures : List Shown
+  pub has_outputs : each_judged (output_of_entry path) block.entries ≡ Ok outputs
+  -- the schema is held and gives the catalogue
+  pub schema_held : AllZip (IsSource held) block.schema schema
+  pub replays : catalogue_of path schema ≡ Ok contents
+  -- the files of queries are held, and each has one of these signatures, in order
+  pub queries_held : AllZip (IsSource held) block.queries queries
+  pub says : AllZip (SaysQuery contents) queries signatures
+  -- the files of each output read as these
+  pub written : InOrder (IsWritten signatures now) outputs put
 
 -- what was put for the configuration held
 pub record IsHeadline (words : List (List ℕ)) (held now : List File) : Type 0 where
@@ -114,7 +113,7 @@ pub record IsHeadline (words : List (List ℕ)) (held now : List File) : Type 0 
   -- it is held, and has these blocks
   pub configuration_held : bytes_at held path ≡ Some configuration
   pub configures : configured path configuration ≡ Ok blocks
-  pub put : ArePut blocks held now (files_asked words held)
+  pub put : InOrder (IsBlock path held now) blocks (files_asked words held)
 
 -- where tree and output tell their files, and the words say `generate`, Done means all of this
 abbrev pub Headline : List (List ℕ) → Outside → Outside → Status → Type 0

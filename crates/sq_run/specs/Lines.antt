@@ -24,13 +24,14 @@ word number =
     else (if number == 2 then codes "BadByte"
     else (if number == 3 then codes "NotUtf8"
     else (if number == 8 then codes "FileTooLong"
+    else (if number == 9 then codes "TooManyFiles"
     else (if number == 10 then codes "UnknownTable"
     else (if number == 11 then codes "UnknownColumn"
     else (if number == 70 then codes "BadJson"
     else (if number == 71 then codes "BadKey"
     else (if number == 72 then codes "NoWriter"
     else (if number == 73 then codes "SameOut"
-    else codes "NotYet")))))))))
+    else codes "NotYet"))))))))))
 
 -- a text that a refusal keeps, and a space before it; an empty one is left away
 abbrev pub kept : List ℕ → List ℕ

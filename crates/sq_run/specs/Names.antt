@@ -1,8 +1,9 @@
--- The names that tokens stand for (PostgreSQL manual, 4.1.1): so far those of at most 63 bytes, and without quotes those of ASCII letters, digits and underscores.
-use Rattle.std.specs.Prelude.{ℕ, ◌==◌, ◌&&◌, ◌||◌, ◌-◌, nat_le, not, Bool, true, false, if◌then◌else◌, List, [], ◌∷◌, length, take, drop, map, Option, None, Some}
+-- The names that tokens stand for (PostgreSQL manual, section 4.1.1).
+use Rattle.std.specs.Prelude.{ℕ, ◌==◌, ◌&&◌, ◌||◌, ◌-◌, not, Bool, true, false, if◌then◌else◌, List, [], ◌∷◌, length, take, drop, map, Option, None, Some}
 use Rattle.std.specs.List.{list_all, list_any}
-use Rattle.std.specs.Str.{is_utf8, str_eq_ignore_ascii_case, str_to_ascii_lowercase}
+use Rattle.std.specs.Str.{is_utf8, str_eq_ignore_ascii_case}
 use Rattle.std.specs.Char.{is_ascii_alphanumeric, is_ascii_digit}
+use Rattle.sq_base.specs.Folding.{folded, whole_front}
 use Rattle.sq_syntax.specs.declared.token.TokenKind.{TokenKind}
 use Rattle.sq_syntax.specs.declared.token.TokenKind.TheVariants.{Word, Quoted}
 use Rattle.sq_run.specs.declared.names.TheConstants.{RESERVED}
@@ -32,13 +33,9 @@ is_among words text = list_any (λ word. same_word text word) words
 unfoldable pub is_reserved : List ℕ → Bool
 is_reserved text = is_among (map (λ word. word.now) RESERVED) text
 
--- a word is a name: an identifier of at most 63 bytes that is not reserved
-abbrev pub is_name : List ℕ → Bool
-is_name text = (is_identifier text && nat_le (length text) 63) && not (is_reserved text)
-
--- the name of a word has its ASCII letters lowered
+-- the name of a word is what it folds to, unless it is reserved
 unfoldable pub word_name : List ℕ → Option (List ℕ)
-word_name bytes = if is_name bytes then Some (str_to_ascii_lowercase bytes) else None
+word_name bytes = if is_utf8 bytes && not (is_reserved bytes) then Some (folded bytes) else None
 
 -- what two quotes stand round
 abbrev pub inside : List ℕ → List ℕ
@@ -54,13 +51,9 @@ undoubled_from false (b ∷ bytes) = b ∷ undoubled_from (b == 34) bytes
 abbrev pub undoubled : List ℕ → List ℕ
 undoubled bytes = undoubled_from false bytes
 
--- a text of at most 63 bytes
-abbrev pub short_text : List ℕ → Option (List ℕ)
-short_text bytes = if is_utf8 bytes && nat_le (length bytes) 63 then Some bytes else None
-
--- the name in double quotes
+-- the name in double quotes, cut as a word is
 unfoldable pub quoted_name : List ℕ → Option (List ℕ)
-quoted_name bytes = short_text (undoubled (inside bytes))
+quoted_name bytes = let name = undoubled (inside bytes) in if is_utf8 name then Some (whole_front 63 name) else None
 
 -- the name that a token of this kind stands for
 unfoldable pub name_text : TokenKind → List ℕ → Option (List ℕ)

@@ -12,6 +12,7 @@ use Rattle.sq_core.specs.Identifiers.{package_name}
 use Rattle.sq_core.specs.Layout.{layout}
 use Rattle.sq_core.specs.Names.{clash}
 use Rattle.sq_core.specs.declared.declaration.ModelDecl.{ModelDecl}
+use Rattle.sq_core.specs.declared.declaration.QueryFile.{QueryFile}
 use Rattle.sq_core.specs.declared.declaration.QuerySig.{QuerySig}
 use Rattle.sq_core.specs.declared.signature.Command.TheVariants.{Many}
 use Rattle.sq_lexer.specs.TokenList.{token_list}
@@ -31,14 +32,15 @@ use Rattle.sq_run.specs.declared.configuration.Block.{Block}
 use Rattle.sq_run.specs.declared.configuration.Configuration.{Configuration as Configured}
 use Rattle.sq_run.specs.declared.configuration.Entry.{Entry}
 use Rattle.sq_run.specs.declared.configuration.OptionPair.{OptionPair}
-use Rattle.sq_run.specs.declared.plan.Output.{Output}
-use Rattle.sq_run.specs.declared.plan.Plan.{Plan}
+use Rattle.sq_run.specs.declared.outputs.Output.{Output}
 use Rattle.sq_run.specs.declared.query.Query.{Query}
 use Rattle.sq_run.specs.declared.read.Role.{Role}
+use Rattle.sq_run.specs.declared.sources.SourceFile.{SourceFile}
+use Rattle.sq_run.specs.declared.sources.TheConstants.{MOST_FILES}
 use Rattle.sq_run.specs.declared.read.Role.TheVariants.{Configuration, Source}
 use Rattle.sq_run.specs.declared.read.TheConstants.{LIMIT}
 use Rattle.sq_run.specs.declared.statements.CreateTable.{CreateTable}
-use Rattle.sq_run.specs.Asked.{Asked, Follows, nothing_asked, and_then, and_also}
+use Rattle.sq_run.specs.Asked.{Asked, Follows, nothing_asked, and_then, gathered, each_judged}
 use Rattle.sq_run.specs.CommandLine.{request_of}
 use Rattle.sq_run.specs.Configuration.{configuration_of}
 use Rattle.sq_run.specs.Judged.{judged, output_of}
@@ -63,48 +65,51 @@ checked role path bytes = if nat_le (length bytes) LIMIT then Ok bytes else Err 
 abbrev pub whole_file : Role → List ℕ → List File → Asked (List ℕ)
 whole_file role path files = record { paths = path ∷ []; answer = option_map (checked role path) (bytes_at files path) }
 
--- what is made of what stands at a path, at which a file is wanted
-abbrev pub wanted : List ℕ → List File → Option (Result (Unit {0}) (List Finding))
-wanted path files = if is_file files path then Some (Ok tt) else (if is_folder files path then Some (Err (not_yet Source path ∷ [])) else None)
+-- SOURCES: the files of one key of a block
+
+-- the path of the file at a path, at which a file is wanted
+abbrev pub wanted : List ℕ → List File → Option (Result (List (List ℕ)) (List Finding))
+wanted path files = if is_file files path then Some (Ok (path ∷ [])) else (if is_folder files path then Some (Err (not_yet Source path ∷ [])) else None)
 
 -- lists a path, at which a file is wanted
-abbrev pub wanted_file : List ℕ → List File → Asked (Unit {0})
+abbrev pub wanted_file : List ℕ → List File → Asked (List (List ℕ))
 wanted_file path files = record { paths = path ∷ []; answer = wanted path files }
 
--- lists a path, and reads the file at it
-abbrev pub source : List ℕ → List File → Asked (List ℕ)
-source path files = and_then (wanted_file path files) (λ _. whole_file Source path files)
+-- paths, where none of these is too many
+abbrev pub unless_more : List (List ℕ) → List (List ℕ) → Result (List (List ℕ)) (List Finding)
+unless_more paths [] = Ok paths
+unless_more paths (path ∷ more) = Err (refused_file Source 9 path ∷ [])
 
--- what is made of a source's tokens, unless its bytes have none
-abbrev pub with_tokens : {A : Type 0} → List ℕ → Result (List Token) Refusal → (List Token → Result A (List Finding)) → Result A (List Finding)
-with_tokens path (Ok tokens) more = more tokens
-with_tokens path (Err refusal) more = Err (InSource path refusal ∷ [])
+-- the files of a key, unless they are too many
+abbrev pub counted : List (List ℕ) → Result (List (List ℕ)) (List Finding)
+counted paths = unless_more paths (drop MOST_FILES paths)
 
--- A BLOCK: one path of its schema, one of its queries, and one output at most, which has no options, so far
+-- a source with its tokens, unless its bytes have none
+abbrev pub with_tokens : List ℕ → Result (List Token) Refusal → Result (List SourceFile) (List Finding)
+with_tokens path (Ok tokens) = Ok (record { path = path; tokens = tokens } ∷ [])
+with_tokens path (Err refusal) = Err (InSource path refusal ∷ [])
 
--- the only item of a list
-abbrev pub only : {A : Type 0} → List A → Option A
-only (item ∷ []) = Some item
-only items = None
+-- reads the source at a path, which has this number among those of its key
+abbrev pub source : ℕ → List ℕ → List File → Asked (List SourceFile)
+source number path files = and_then (whole_file Source path files) (λ bytes. nothing_asked (with_tokens path (token_list number bytes)))
 
--- the output of an entry without options
-abbrev pub output_by : Entry → List OptionPair → Option Output
-output_by entry [] = Some (record { path = entry.path; package_name = package_name entry.options.out })
-output_by entry pairs = None
+-- lists the paths of a key, and then reads their files
+abbrev pub sources : List (List ℕ) → List File → Asked (List SourceFile)
+sources paths files =
+    and_then (gathered (λ _ path. wanted_file path) 0 paths files) (λ found.
+    and_then (nothing_asked (counted found)) (λ few.
+    gathered source 0 few files))
 
--- the output of a block's entries, where it has one
-abbrev pub output_in : List Entry → Option (Option Output)
-output_in [] = Some None
-output_in (entry ∷ []) = option_map Some (output_by entry entry.options.pairs)
-output_in entries = None
+-- OUTPUTS: of each entry, which has no options so far
 
--- the plan of a block
-unfoldable pub plan_in : Block → Option Plan
-plan_in block = do
-  schema ← only block.schema
-  queries ← only block.queries
-  output ← output_in block.entries
-  Some (record { schema = schema; queries = queries; output = output })
+-- the output of an entry with these options
+abbrev pub output_by : List ℕ → Entry → List OptionPair → Result (List Output) (List Finding)
+output_by path entry [] = Ok (record { path = entry.path; package_name = package_name entry.options.out } ∷ [])
+output_by path entry (pair ∷ pairs) = Err (not_yet Configuration path ∷ [])
+
+-- the output of an entry
+abbrev pub output_of_entry : List ℕ → Entry → Result (List Output) (List Finding)
+output_of_entry path entry = output_by path entry entry.options.pairs
 
 -- the blocks of a configuration, unless this is refused
 abbrev pub configured_by : List ℕ → Result Configured BadConfiguration → Result (List Block) (List Finding)
@@ -115,14 +120,11 @@ configured_by path (Err bad) = Err (InConfiguration path bad.number bad.first �
 abbrev pub configured : List ℕ → List ℕ → Result (List Block) (List Finding)
 configured path bytes = configured_by path (configuration_of (folder_of path) bytes)
 
+-- THE SCHEMA: all its files together have one statement, so far
+
 -- the catalogue with this table alone
 abbrev pub catalogue_with : CreateTable → Contents
 catalogue_with table = with_table empty (codes "public") table.name table.columns
-
--- what the statement of the schema is judged to be
-abbrev pub catalogue_by : List ℕ → Option CreateTable → Result Contents (List Finding)
-catalogue_by path (Some table) = Ok (catalogue_with table)
-catalogue_by path None = Err (not_yet Source path ∷ [])
 
 -- whether a token isn't a comment that names a query: a schema has no use for these
 abbrev pub is_no_note : TokenKind → Bool
@@ -133,15 +135,51 @@ is_no_note _ = true
 abbrev pub without_notes : List Token → List Token
 without_notes tokens = filter (λ (token : Token). is_no_note token.kind) tokens
 
--- the table that the schema's statement makes
+-- the table that a statement makes
 unfoldable pub table_of : List Token → Option CreateTable
 table_of tokens = do
-  statement ← one_statement (without_notes tokens)
+  statement ← one_statement tokens
   create_table statement
 
--- what the schema at a path is judged to be
-abbrev pub catalogue_of : List ℕ → List ℕ → Result Contents (List Finding)
-catalogue_of path bytes = with_tokens path (token_list 0 bytes) (λ tokens. catalogue_by path (table_of tokens))
+-- one table, or a form that isn't built yet
+abbrev pub table_by : List ℕ → Option CreateTable → Result (List CreateTable) (List Finding)
+table_by path (Some table) = Ok (table ∷ [])
+table_by path None = Err (not_yet Source path ∷ [])
+
+-- the tables that tokens make: none where there are none
+abbrev pub tables_by : List ℕ → List Token → Result (List CreateTable) (List Finding)
+tables_by path [] = Ok []
+tables_by path (token ∷ tokens) = table_by path (table_of (token ∷ tokens))
+
+-- the tables that a file of a schema makes
+abbrev pub tables_in : SourceFile → Result (List CreateTable) (List Finding)
+tables_in file = tables_by file.path (without_notes file.tokens)
+
+-- the only table, where there is one
+abbrev pub only : List CreateTable → Option CreateTable
+only [] = None
+only (table ∷ []) = Some table
+only (table ∷ second ∷ tables) = None
+
+-- the catalogue of the only table
+abbrev pub catalogue_with_only : List ℕ → Option CreateTable → Result Contents (List Finding)
+catalogue_with_only path (Some table) = Ok (catalogue_with table)
+catalogue_with_only path None = Err (not_yet Configuration path ∷ [])
+
+-- the catalogue of these tables, where there is one, and else a form that isn't built yet
+abbrev pub catalogue_by : List ℕ → List CreateTable → Result Contents (List Finding)
+catalogue_by path tables = catalogue_with_only path (only tables)
+
+-- the catalogue, where every file was judged
+abbrev pub catalogue_from : List ℕ → Result (List CreateTable) (List Finding) → Result Contents (List Finding)
+catalogue_from path (Ok tables) = catalogue_by path tables
+catalogue_from path (Err findings) = Err findings
+
+-- what a schema is judged to be, of a block in the configuration at this path
+abbrev pub catalogue_of : List ℕ → List SourceFile → Result Contents (List Finding)
+catalogue_of path schema = catalogue_from path (each_judged tables_in schema)
+
+-- DECLARATIONS
 
 -- the declaration of a table's model
 abbrev pub model_of : Table → ModelDecl
@@ -155,40 +193,44 @@ models_of contents = map model_of contents.tables
 abbrev pub file_name : List ℕ → List ℕ
 file_name path = drop (length (folder_of path)) path
 
--- the declaration of a query of the file at a path
-abbrev pub declared : List ℕ → Query → Judged → QuerySig
-declared path query judged = record {
-  source = file_name path;
+-- the declaration of a judged query
+abbrev pub declared : Query → Judged → QuerySig
+declared query judged = record {
   signature = record { name = query.name; command = Many; text = query.text; params = []; columns = judged.columns };
   model = judged.model;
 }
+
+-- a file of queries at a path, with this one
+abbrev pub file_with : List ℕ → Query → Judged → QueryFile
+file_with path query judged = record { source = file_name path; queries = declared query judged ∷ [] }
+
+-- the file of queries with what a query is judged to be
+abbrev pub file_by : List ℕ → Query → Result Judged Refusal → Result (List QueryFile) (List Finding)
+file_by path query (Ok judged) = Ok (file_with path query judged ∷ [])
+file_by path query (Err refusal) = Err (InSource path refusal ∷ [])
+
+-- the file of queries with the query that was read
+abbrev pub file_of : Contents → List ℕ → Option Query → Result (List QueryFile) (List Finding)
+file_of contents path (Some query) = file_by path query (judged contents query.select)
+file_of contents path None = Err (not_yet Source path ∷ [])
+
+-- what a source of queries is judged to be, over the catalogue
+abbrev pub declared_in : Contents → SourceFile → Result (List QueryFile) (List Finding)
+declared_in contents file = file_of contents file.path (query_of file.tokens)
+
+-- FILES
 
 -- a written file in the folder of its output
 abbrev pub placed : List ℕ → File → File
 placed folder file = record { path = folder ++ 47 ∷ file.path; bytes = file.bytes }
 
 -- the files of an output
-abbrev pub output_files : Output → List ModelDecl → List QuerySig → List File
+abbrev pub output_files : Output → List ModelDecl → List QueryFile → List File
 output_files output models queries = map (placed output.path) (layout output.package_name models queries)
 
--- the files of these declarations where there is an output, unless two identifiers of one name space are equal
-abbrev pub written : List ℕ → Option Output → List ModelDecl → List QuerySig → Result (List File) (List Finding)
-written path None models queries = Ok []
-written path (Some output) models queries = if clash models queries then Err (not_yet Configuration path ∷ []) else Ok (output_files output models queries)
-
--- the files of a judged query
-abbrev pub files_by : List ℕ → Plan → Contents → Query → Result Judged Refusal → Result (List File) (List Finding)
-files_by path plan contents query (Ok judged) = written path plan.output (models_of contents) (declared plan.queries query judged ∷ [])
-files_by path plan contents query (Err refusal) = Err (InSource plan.queries refusal ∷ [])
-
--- the files of the query that a file has
-abbrev pub files_with : List ℕ → Plan → Contents → Option Query → Result (List File) (List Finding)
-files_with path plan contents (Some query) = files_by path plan contents query (judged contents query.select)
-files_with path plan contents None = Err (not_yet Source plan.queries ∷ [])
-
--- what the query's file is judged to be, over the catalogue
-abbrev pub judged_bytes : List ℕ → Plan → Contents → List ℕ → Result (List File) (List Finding)
-judged_bytes path plan contents bytes = with_tokens plan.queries (token_list 1 bytes) (λ tokens. files_with path plan contents (query_of tokens))
+-- the files of an output, unless two identifiers of one name space are equal
+abbrev pub written : List ℕ → List ModelDecl → List QueryFile → Output → Result (List File) (List Finding)
+written path models queries output = if clash models queries then Err (not_yet Configuration path ∷ []) else Ok (output_files output models queries)
 
 -- WHAT A RUN ASKS
 
@@ -196,27 +238,19 @@ judged_bytes path plan contents bytes = with_tokens plan.queries (token_list 1 b
 abbrev pub configuration_at : List ℕ → List File → Asked (List Block)
 configuration_at path files = and_then (whole_file Configuration path files) (λ bytes. nothing_asked (configured path bytes))
 
--- reads the schema and the query of a plan
-abbrev pub plan_files : List ℕ → Plan → List File → Asked (List File)
-plan_files path plan files =
-    and_then (source plan.schema files) (λ schema.
-    and_then (nothing_asked (catalogue_of plan.schema schema)) (λ contents.
-    and_then (source plan.queries files) (λ query.
-    nothing_asked (judged_bytes path plan contents query))))
-
--- of a block's plan, unless the block asks for more than is built
-abbrev pub planned_files : List ℕ → Option Plan → List File → Asked (List File)
-planned_files path (Some plan) files = plan_files path plan files
-planned_files path None files = nothing_asked (Err (not_yet Configuration path ∷ []))
-
--- reads a block and judges it
+-- reads a block and judges it, up to the files of its outputs
 abbrev pub block_files : List ℕ → Block → List File → Asked (List File)
-block_files path block files = planned_files path (plan_in block) files
+block_files path block files =
+    and_then (nothing_asked (each_judged (output_of_entry path) block.entries)) (λ outputs.
+    and_then (sources block.schema files) (λ schema.
+    and_then (nothing_asked (catalogue_of path schema)) (λ contents.
+    and_then (sources block.queries files) (λ queries.
+    and_then (nothing_asked (each_judged (declared_in contents) queries)) (λ declared.
+    nothing_asked (each_judged (written path (models_of contents) declared) outputs))))))
 
 -- reads all blocks, one after the other, and judges them
 abbrev pub all_files : List ℕ → List Block → List File → Asked (List File)
-all_files path [] files = nothing_asked (Ok [])
-all_files path (block ∷ blocks) files = and_also (block_files path block files) (all_files path blocks files)
+all_files path blocks files = gathered (λ _ block. block_files path block) 0 blocks files
 
 -- of these files, those that the task puts
 abbrev pub put_by : Task → List File → List File

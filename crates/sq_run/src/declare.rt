@@ -1,15 +1,22 @@
 //! The declarations that a writer is given.
 
 ghost use Rattle.std.specs.Prelude.{◌≡◌, ◌∷◌, [], map, IfOk};
-ghost use Rattle.sq_run.specs.Judged.{output_of};
+ghost use Rattle.sq_run.specs.Asked.{Judges, each_judged};
+ghost use Rattle.sq_run.specs.Judged.{judged, output_of};
 ghost use Rattle.sq_run.specs.Project;
-ghost use Rattle.sq_run.specs.Project.{models_of, file_name, declared};
+ghost use Rattle.sq_run.specs.Project.{declared, declared_in, file_by, file_name, file_of, file_with};
+ghost use Rattle.sq_run.specs.Query.{query_of};
 
-use crate::judge::{Judged, output_of};
-use crate::query::Query;
-use sq_base::{List, Name};
+use crate::Halt;
+use crate::joining::{ending, join};
+use crate::judge::{Judged, judge, output_of};
+use crate::query::{Query, read_query};
+use crate::read::{Role, refuse, refuse_source};
+use crate::sources::SourceFile;
+use crate::statements::NoForm;
+use sq_base::{Fault, List, Name};
 use sq_catalog::{Catalogue, Table};
-use sq_core::{Command, ModelDecl, Output as Column, QuerySig, Signature};
+use sq_core::{Command, ModelDecl, Output as Column, QueryFile, QuerySig, Signature};
 use std::alloc::{AllocError, Global};
 
 /// The columns of a table's model.
@@ -35,8 +42,8 @@ fn model_of(alloc: Global, table: &Table) -> Result<ModelDecl, AllocError>
     })
 }
 
-/// The declarations of all models.
-fn models_of(alloc: Global, tables: &[Table]) -> Result<List<ModelDecl>, AllocError>
+/// The declarations of the models of all tables.
+pub fn models_of(alloc: Global, tables: &[Table]) -> Result<List<ModelDecl>, AllocError>
     ensures { IfOk result (λ models. models ≡ map Project.model_of tables.now) }
 {
     let mut models = List::new(alloc);
@@ -56,12 +63,11 @@ fn file_name(path: &str) -> &str
     }
 }
 
-/// The declaration of a query of the file at a path.
-fn declared(alloc: Global, path: &str, query: Query, judged: Judged) -> Result<QuerySig, AllocError>
-    ensures { IfOk result (λ declaration. declaration ≡ declared path.now query judged) }
+/// The declaration of a judged query.
+fn declared(alloc: Global, query: Query, judged: Judged) -> QuerySig
+    ensures { result ≡ declared query judged }
 {
-    Ok(QuerySig {
-        source: Name::new(alloc, file_name(path))?,
+    QuerySig {
         signature: Signature {
             name: query.name,
             command: Command::Many,
@@ -70,21 +76,75 @@ fn declared(alloc: Global, path: &str, query: Query, judged: Judged) -> Result<Q
             columns: judged.columns,
         },
         model: judged.model,
-    })
+    }
 }
 
-/// The declarations of the models and of the judged query of the file at a path.
-pub fn declarations(
+/// The list of the one file of queries at a path, with this query.
+fn one_file(
+    alloc: Global,
+    path: &str,
+    query: Query,
+    judged: Judged,
+) -> Result<List<QueryFile>, AllocError>
+    ensures { IfOk result (λ files. files ≡ file_with path.now query judged ∷ []) }
+{
+    let mut queries = List::new(alloc);
+    queries.push(declared(alloc, query, judged))?;
+    let mut files = List::new(alloc);
+    files.push(QueryFile {
+        source: Name::new(alloc, file_name(path))?,
+        queries,
+    })?;
+    Ok(files)
+}
+
+/// Judges the query of the file at a path over the catalogue.
+fn judge_query(
     alloc: Global,
     catalogue: &Catalogue,
     path: &str,
     query: Query,
-    judged: Judged,
-) -> Result<(List<ModelDecl>, List<QuerySig>), AllocError>
-    ensures { IfOk result (λ r. (r.0 ≡ models_of catalogue.now) × (r.1 ≡ declared path.now query judged ∷ [])) }
+) -> Result<List<QueryFile>, Halt>
+    ensures { Judges (file_by path.now query (judged catalogue.now query.select)) result }
 {
-    let models = models_of(alloc, catalogue.tables())?;
-    let mut queries = List::new(alloc);
-    queries.push(declared(alloc, path, query, judged)?)?;
-    Ok((models, queries))
+    let judged = match judge(alloc, catalogue, &query.select) {
+        Ok(judged) => judged,
+        Err(Fault::Refused(refusal)) => return Err(refuse_source(alloc, path, refusal)),
+        Err(Fault::Memory) => return Err(Halt::Memory),
+    };
+    match one_file(alloc, path, query, judged) {
+        Ok(files) => Ok(files),
+        Err(_) => Err(Halt::Memory),
+    }
+}
+
+/// What a source of queries is judged to be, over the catalogue.
+fn declared_in(
+    alloc: Global,
+    catalogue: &Catalogue,
+    file: &SourceFile,
+) -> Result<List<QueryFile>, Halt>
+    ensures { Judges (declared_in catalogue.now file.now) result }
+{
+    let path = file.path.as_str();
+    match read_query(alloc, file.tokens.as_slice()) {
+        Ok(query) => judge_query(alloc, catalogue, path, query),
+        Err(NoForm::Other) => Err(refuse(alloc, Role::Source, path)),
+        Err(NoForm::Memory) => Err(Halt::Memory),
+    }
+}
+
+/// What the sources of queries are judged to be, over the catalogue.
+pub fn declare_queries(
+    alloc: Global,
+    catalogue: &Catalogue,
+    files: &[SourceFile],
+) -> Result<List<QueryFile>, Halt>
+    ensures { Judges (each_judged (declared_in catalogue.now) files.now) result }
+{
+    let mut so_far = Ok(List::new(alloc));
+    for file in files {
+        so_far = join(so_far, declared_in(alloc, catalogue, file))?;
+    }
+    ending(so_far)
 }

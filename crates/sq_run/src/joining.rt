@@ -1,10 +1,10 @@
-//! What parts come to that are all judged: the files of all, or the findings of all.
+//! What parts come to that are all judged: what all of them give, or the findings of all.
 
 ghost use Rattle.std.specs.Prelude.{◌≡◌, [], ◌++◌, Ok, Err, IfOk, OnOk};
 ghost use Rattle.sq_run.specs.Asked.{Comes, Joins, joined, ended_with};
 
 use crate::{Finding, Halt};
-use sq_base::{File, List};
+use sq_base::List;
 use std::alloc::AllocError;
 
 /// Adds items at the end.
@@ -17,15 +17,15 @@ fn append<T: Drop>(items: &mut List<T>, more: List<T>) -> Result<(), AllocError>
     Ok(())
 }
 
-/// What was judged so far: files, or findings.
-pub type SoFar = Result<List<File>, List<Finding>>;
+/// What was judged so far, or findings.
+pub type SoFar<T> = Result<List<T>, List<Finding>>;
 
 /// What a part has come to, unless it halts the run.
-fn come_to(part: Result<List<File>, Halt>) -> Result<SoFar, Halt>
+fn come_to<T: Drop>(part: Result<List<T>, Halt>) -> Result<SoFar<T>, Halt>
     ensures { Comes part result }
 {
     match part {
-        Ok(files) => Ok(Ok(files)),
+        Ok(items) => Ok(Ok(items)),
         Err(Halt::Refused(findings)) => Ok(Err(findings)),
         Err(Halt::Usage) => Err(Halt::Usage),
         Err(Halt::Missing(path)) => Err(Halt::Missing(path)),
@@ -34,25 +34,28 @@ fn come_to(part: Result<List<File>, Halt>) -> Result<SoFar, Halt>
     }
 }
 
-/// Files with those of the next part, or its findings.
-fn joined_files(files: List<File>, after: SoFar) -> Result<SoFar, AllocError>
-    ensures { IfOk result (λ both. both ≡ joined (Ok files) after) }
+/// Items with those of the next part, or its findings.
+fn joined_items<T: Drop>(items: List<T>, after: SoFar<T>) -> Result<SoFar<T>, AllocError>
+    ensures { IfOk result (λ both. both ≡ joined (Ok items) after) }
 {
     let more = match after {
         Ok(more) => more,
         Err(findings) => return Ok(Err(findings)),
     };
-    let mut both = files;
+    let mut both = items;
     append(&mut both, more)?;
     Ok(Ok(both))
 }
 
 /// Findings with those of the next part.
-fn joined_findings(findings: List<Finding>, after: SoFar) -> Result<SoFar, AllocError>
+fn joined_findings<T: Drop>(
+    findings: List<Finding>,
+    after: SoFar<T>,
+) -> Result<SoFar<T>, AllocError>
     ensures { IfOk result (λ both. both ≡ joined (Err findings) after) }
 {
     let more = match after {
-        Ok(_files) => return Ok(Err(findings)),
+        Ok(_items) => return Ok(Err(findings)),
         Err(more) => more,
     };
     let mut both = findings;
@@ -60,18 +63,18 @@ fn joined_findings(findings: List<Finding>, after: SoFar) -> Result<SoFar, Alloc
     Ok(Err(both))
 }
 
-/// The files of two parts, or the findings of both.
-fn joined(before: SoFar, after: SoFar) -> Result<SoFar, AllocError>
+/// What two parts give, or the findings of both.
+fn joined<T: Drop>(before: SoFar<T>, after: SoFar<T>) -> Result<SoFar<T>, AllocError>
     ensures { IfOk result (λ both. both ≡ joined before after) }
 {
     match before {
-        Ok(files) => joined_files(files, after),
+        Ok(items) => joined_items(items, after),
         Err(findings) => joined_findings(findings, after),
     }
 }
 
 /// Joins what was judged so far with what a part has come to.
-pub fn join(so_far: SoFar, part: Result<List<File>, Halt>) -> Result<SoFar, Halt>
+pub fn join<T: Drop>(so_far: SoFar<T>, part: Result<List<T>, Halt>) -> Result<SoFar<T>, Halt>
     ensures { Joins so_far part result }
 {
     let answer = come_to(part)?;
@@ -82,11 +85,11 @@ pub fn join(so_far: SoFar, part: Result<List<File>, Halt>) -> Result<SoFar, Halt
 }
 
 /// How a run ends for what was judged.
-pub fn ending(judged: SoFar) -> Result<List<File>, Halt>
+pub fn ending<T: Drop>(judged: SoFar<T>) -> Result<List<T>, Halt>
     ensures { result ≡ ended_with judged (Ok []) }
 {
     match judged {
-        Ok(files) => Ok(files),
+        Ok(items) => Ok(items),
         Err(findings) => Err(Halt::Refused(findings)),
     }
 }

@@ -52,6 +52,7 @@ fn word(number: u8) -> &'static str
         2 => "BadByte",
         3 => "NotUtf8",
         8 => "FileTooLong",
+        9 => "TooManyFiles",
         10 => "UnknownTable",
         11 => "UnknownColumn",
         70 => "BadJson",

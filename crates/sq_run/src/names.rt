@@ -3,11 +3,11 @@
 ghost use Rattle.std.specs.Prelude.{◌≡◌, ◌≤◌, ◌++◌, ◌∷◌, List, ℕ, true, false, length, map, string_bytes, IfOk, MatchOption};
 ghost use Rattle.std.specs.Str.{is_utf8, str_to_ascii_lowercase};
 ghost use Rattle.sq_run.specs.Names;
-ghost use Rattle.sq_run.specs.Names.{same_word, is_name_byte, is_identifier, is_among, is_reserved, is_name, word_name, inside, undoubled, undoubled_from, quoted_name, name_text};
+ghost use Rattle.sq_run.specs.Names.{same_word, is_name_byte, is_identifier, is_among, is_reserved, word_name, inside, undoubled, undoubled_from, quoted_name, name_text};
 ghost use Rattle.sq_run.specs.Read.{Gives};
 
 use crate::statements::NoForm;
-use sq_base::{List, Name};
+use sq_base::{List, Name, fold, whole_front};
 use sq_syntax::TokenKind;
 use std::alloc::{AllocError, Global};
 use std::str::from_utf8;
@@ -169,23 +169,15 @@ pub fn ascii(alloc: Global, bytes: &[u8]) -> Result<String, AllocError>
     Ok(text)
 }
 
-fn is_name(bytes: &[u8]) -> bool
-    ensures { result ≡ is_name bytes.now }
-{
-    is_identifier(bytes) && bytes.len() <= 63 && !is_reserved(bytes)
-}
-
-/// The name of a word, which stands without quotes: its ASCII letters are lowered.
+/// The name of a word, which stands without quotes and is not reserved.
 #[tactic(auto, unfolding(crate::specs::Names::word_name))]
 fn word_name(alloc: Global, bytes: &[u8]) -> Result<Name, NoForm>
     ensures { Gives (λ r. r) result (word_name bytes.now) }
 {
-    if !is_name(bytes) {
-        return Err(NoForm::Other);
+    match text_of(bytes) {
+        Some(text) if !is_reserved(bytes) => Ok(fold(alloc, text)?),
+        _ => Err(NoForm::Other),
     }
-    let mut name = ascii(alloc, bytes)?;
-    name.make_ascii_lowercase();
-    Ok(Name::from_string(name))
 }
 
 /// What two quotes stand round.
@@ -231,15 +223,15 @@ fn text_of(bytes: &[u8]) -> Option<&str>
     }
 }
 
-/// The name in double quotes.
+/// The name in double quotes, cut as a word is.
 #[tactic(auto, unfolding(crate::specs::Names::quoted_name))]
 fn quoted_name(alloc: Global, bytes: &[u8]) -> Result<Name, NoForm>
     ensures { Gives (λ r. r) result (quoted_name bytes.now) }
 {
     let name = undoubled(alloc, inside(bytes))?;
     match text_of(name.as_slice()) {
-        Some(text) if text.len() <= 63 => Ok(Name::new(alloc, text)?),
-        _ => Err(NoForm::Other),
+        Some(text) => Ok(Name::new(alloc, whole_front(text))?),
+        None => Err(NoForm::Other),
     }
 }
 

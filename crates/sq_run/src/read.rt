@@ -1,15 +1,12 @@
 ghost use Rattle.std.specs.Prelude.{◌≡◌, ◌≤◌, [], ◌∷◌, length, Ok, IfOk};
-ghost use Rattle.sq_lexer.specs.TokenList.{token_list};
 ghost use Rattle.sq_run.specs.Asked.{Follows, Judges};
 ghost use Rattle.sq_run.specs.declared.halt.Finding.TheVariants.{Source as InSource};
 ghost use Rattle.sq_run.specs.Project;
-ghost use Rattle.sq_run.specs.Project.{whole_file, wanted_file, source, with_tokens};
+ghost use Rattle.sq_run.specs.Project.{whole_file, wanted_file};
 ghost use Rattle.sq_run.specs.Halts.{IsHaltOf, IsRefusalOf};
 
 use crate::{Finding, Halt};
-use sq_base::{Fault, List, Listing, Name, Place, Refusal, Tree, TreeFault};
-use sq_lexer::tokens;
-use sq_syntax::Token;
+use sq_base::{List, Listing, Name, Place, Refusal, Tree, TreeFault};
 use std::alloc::{AllocError, Global};
 
 /// The most bytes that a file may have.
@@ -83,7 +80,7 @@ fn one_refused(
 }
 
 /// Ends the run with this one refusal of a file.
-fn refuse_file(alloc: Global, role: Role, number: u8, path: &str) -> Halt
+pub fn refuse_file(alloc: Global, role: Role, number: u8, path: &str) -> Halt
     ensures { IsRefusalOf (Project.refused_file role number path.now ∷ []) result }
 {
     match one_refused(alloc, role, number, path) {
@@ -116,24 +113,34 @@ pub fn read_whole<T: Tree>(
     }
 }
 
-/// Lists a path, at which there is to be a file.
-fn want_file<T: Tree>(alloc: Global, tree: &mut T, path: &str) -> Result<(), Halt>
-    ensures { Follows (wanted_file path.now) (T.state tree.old) (T.state tree.new) result }
+/// The list of this one path.
+fn one_path(alloc: Global, path: &str) -> Result<List<Name>, AllocError>
+    ensures { IfOk result (λ paths. paths ≡ path.now ∷ []) }
 {
-    match tree.list(alloc, path) {
-        Ok(Listing::File) => Ok(()),
-        Ok(Listing::Folder(_)) => Err(refuse(alloc, Role::Source, path)),
-        Err(fault) => Err(halt(alloc, path, fault)),
+    let mut paths = List::new(alloc);
+    paths.push(Name::new(alloc, path)?)?;
+    Ok(paths)
+}
+
+/// The file that is found at a path.
+fn found(alloc: Global, path: &str) -> Result<List<Name>, Halt>
+    ensures { Judges (Ok (path.now ∷ [])) result }
+{
+    match one_path(alloc, path) {
+        Ok(paths) => Ok(paths),
+        Err(_) => Err(Halt::Memory),
     }
 }
 
-/// Lists a path, and reads the file at it.
-pub fn read_source<T: Tree>(alloc: Global, tree: &mut T, path: &str) -> Result<List<u8>, Halt>
-    ensures follows { Follows (source path.now) (T.state tree.old) (T.state tree.new) result }
-    ensures within { IfOk result (λ bytes. length bytes ≤ LIMIT) }
+/// Lists a path, at which there is to be a file.
+pub fn want_file<T: Tree>(alloc: Global, tree: &mut T, path: &str) -> Result<List<Name>, Halt>
+    ensures { Follows (wanted_file path.now) (T.state tree.old) (T.state tree.new) result }
 {
-    want_file(alloc, tree, path)?;
-    read_whole(alloc, tree, Role::Source, path)
+    match tree.list(alloc, path) {
+        Ok(Listing::File) => found(alloc, path),
+        Ok(Listing::Folder(_)) => Err(refuse(alloc, Role::Source, path)),
+        Err(fault) => Err(halt(alloc, path, fault)),
+    }
 }
 
 /// The one finding of a source file.
@@ -146,17 +153,5 @@ pub fn refuse_source(alloc: Global, path: &str, refusal: Refusal) -> Halt
     match one(alloc, Finding::Source { path, refusal }) {
         Ok(findings) => Halt::Refused(findings),
         Err(_) => Halt::Memory,
-    }
-}
-
-/// The tokens of a source file.
-pub fn read_tokens(alloc: Global, path: &str, file: u32, bytes: &[u8]) -> Result<List<Token>, Halt>
-    requires { length bytes.now ≤ LIMIT }
-    ensures { Judges (with_tokens path.now (token_list file bytes.now) Ok) result }
-{
-    match tokens(alloc, file, bytes) {
-        Ok(tokens) => Ok(tokens),
-        Err(Fault::Refused(refusal)) => Err(refuse_source(alloc, path, refusal)),
-        Err(Fault::Memory) => Err(Halt::Memory),
     }
 }

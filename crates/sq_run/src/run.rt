@@ -67,7 +67,7 @@ pub fn sqlc<T: Tree, O: Out, S: Sink>(
     ensures printed { Printed (map string_bytes words.items) (outside (T.state tree.old) (O.state out.old) (S.state screen.old)) (outside (T.state tree.new) (O.state out.new) (S.state screen.new)) result }
     // No call is made but those that are asked for.
     ensures calls { WithinCalls (map string_bytes words.items) (outside (T.state tree.old) (O.state out.old) (S.state screen.old)) (outside (T.state tree.new) (O.state out.new) (S.state screen.new)) }
-    // Where the answer is `Done`, the files read back as exactly the annotated query, whose text runs as they say.
+    // Where the answer is `Done`, the files read back as exactly the annotated queries, whose texts run as they say.
     ensures headline { Headline (map string_bytes words.items) (outside (T.state tree.old) (O.state out.old) (S.state screen.old)) (outside (T.state tree.new) (O.state out.new) (S.state screen.new)) result }
 {
     typed_is_never_stuck();

@@ -1,15 +1,15 @@
 //! The catalogue that a schema gives.
 
-ghost use Rattle.std.specs.Prelude.{◌≡◌, ◌≤◌, length, Ok, IfOk};
-ghost use Rattle.sq_run.specs.Asked.{Judges};
+ghost use Rattle.std.specs.Prelude.{◌≡◌, ◌∷◌, [], Ok, IfOk};
+ghost use Rattle.sq_run.specs.Asked.{Judges, each_judged};
 ghost use Rattle.sq_run.specs.Project;
-ghost use Rattle.sq_run.specs.Project.{catalogue_by, table_of, catalogue_of};
+ghost use Rattle.sq_run.specs.Project.{table_of, tables_by, tables_in, only, catalogue_by, catalogue_of};
 ghost use Rattle.sq_run.specs.Read.{Gives};
-ghost use Rattle.sq_run.specs.declared.read.TheConstants.{LIMIT};
 
 use crate::Halt;
-use crate::plan::Plan;
-use crate::read::{Role, read_tokens, refuse};
+use crate::joining::{ending, join};
+use crate::read::{Role, refuse};
+use crate::sources::SourceFile;
 use crate::statements::{CreateTable, NoForm, one_statement, read_create_table};
 use sq_base::{List, Name};
 use sq_catalog::{Catalogue, Change};
@@ -29,14 +29,60 @@ fn without_notes(alloc: Global, tokens: List<Token>) -> Result<List<Token>, Allo
     Ok(kept)
 }
 
-/// The statement of a schema.
+/// The table that a statement makes.
 #[tactic(auto, unfolding(crate::specs::Project::table_of))]
-fn read_schema(alloc: Global, tokens: List<Token>) -> Result<CreateTable, NoForm>
-    ensures { Gives (λ r. r) result (table_of tokens) }
+fn read_table(alloc: Global, tokens: &[Token]) -> Result<CreateTable, NoForm>
+    ensures { Gives (λ r. r) result (table_of tokens.now) }
 {
-    let tokens = without_notes(alloc, tokens)?;
-    let statement = one_statement(tokens.as_slice())?;
+    let statement = one_statement(tokens)?;
     read_create_table(alloc, statement)
+}
+
+/// The list of this one table.
+fn one_table(alloc: Global, table: CreateTable) -> Result<List<CreateTable>, Halt>
+    ensures { Judges (Ok (table ∷ [])) result }
+{
+    let mut tables = List::new(alloc);
+    match tables.push(table) {
+        Ok(()) => Ok(tables),
+        Err(_) => Err(Halt::Memory),
+    }
+}
+
+/// The tables that the tokens of the file at a path make: none where there are none.
+fn tables_by(alloc: Global, path: &str, tokens: &[Token]) -> Result<List<CreateTable>, Halt>
+    ensures { Judges (tables_by path.now tokens.now) result }
+{
+    if tokens.is_empty() {
+        return Ok(List::new(alloc));
+    }
+    match read_table(alloc, tokens) {
+        Ok(table) => one_table(alloc, table),
+        Err(NoForm::Other) => Err(refuse(alloc, Role::Source, path)),
+        Err(NoForm::Memory) => Err(Halt::Memory),
+    }
+}
+
+/// The tables that a file of a schema makes.
+fn tables_in(alloc: Global, file: SourceFile) -> Result<List<CreateTable>, Halt>
+    ensures { Judges (tables_in file) result }
+{
+    let SourceFile { path, tokens } = file;
+    match without_notes(alloc, tokens) {
+        Ok(tokens) => tables_by(alloc, path.as_str(), tokens.as_slice()),
+        Err(_) => Err(Halt::Memory),
+    }
+}
+
+/// The tables that the files of a schema make.
+fn tables_of(alloc: Global, schema: List<SourceFile>) -> Result<List<CreateTable>, Halt>
+    ensures { Judges (each_judged tables_in schema) result }
+{
+    let mut so_far = Ok(List::new(alloc));
+    for file in schema.into_vec() {
+        so_far = join(so_far, tables_in(alloc, file))?;
+    }
+    ending(so_far)
 }
 
 /// The catalogue with this table alone.
@@ -60,30 +106,40 @@ fn catalogue_with(alloc: Global, table: CreateTable) -> Result<Catalogue, Halt>
     }
 }
 
-/// Judges the tokens of the schema at a path.
-fn catalogue_by(alloc: Global, path: &str, tokens: List<Token>) -> Result<Catalogue, Halt>
-    ensures { Judges (catalogue_by path.now (table_of tokens)) result }
+/// The only one of these tables.
+fn only(tables: List<CreateTable>) -> Option<CreateTable>
+    ensures { result ≡ only tables }
 {
-    match read_schema(alloc, tokens) {
-        Ok(table) => catalogue_with(alloc, table),
-        Err(NoForm::Other) => Err(refuse(alloc, Role::Source, path)),
-        Err(NoForm::Memory) => Err(Halt::Memory),
+    let mut tables = tables.into_vec().into_iter();
+    let first = tables.next()?;
+    match tables.next() {
+        Some(_) => None,
+        None => Some(first),
     }
 }
 
-/// Judges the schema at a path.
-fn replay(alloc: Global, path: &str, bytes: &[u8]) -> Result<Catalogue, Halt>
-    requires { length bytes.now ≤ LIMIT }
-    ensures { Judges (catalogue_of path.now bytes.now) result }
+/// The catalogue of these tables, where there is one.
+fn catalogue_by(
+    alloc: Global,
+    configuration: &str,
+    tables: List<CreateTable>,
+) -> Result<Catalogue, Halt>
+    ensures { Judges (catalogue_by configuration.now tables) result }
 {
-    let tokens = read_tokens(alloc, path, 0, bytes)?;
-    catalogue_by(alloc, path, tokens)
+    match only(tables) {
+        Some(table) => catalogue_with(alloc, table),
+        None => Err(refuse(alloc, Role::Configuration, configuration)),
+    }
 }
 
-/// Judges the schema of a plan.
-pub fn replay_schema(alloc: Global, plan: &Plan, bytes: &[u8]) -> Result<Catalogue, Halt>
-    requires { length bytes.now ≤ LIMIT }
-    ensures { Judges (catalogue_of plan.now.schema bytes.now) result }
+/// What a schema is judged to be, of a block in the configuration at this path.
+pub fn catalogue_of(
+    alloc: Global,
+    configuration: &str,
+    schema: List<SourceFile>,
+) -> Result<Catalogue, Halt>
+    ensures { Judges (catalogue_of configuration.now schema) result }
 {
-    replay(alloc, plan.schema.as_str(), bytes)
+    let tables = tables_of(alloc, schema)?;
+    catalogue_by(alloc, configuration, tables)
 }

@@ -1,14 +1,17 @@
-//! The files of an output.
+//! The files of the outputs of a block.
 
 ghost use Rattle.std.specs.Prelude.{◌≡◌, map, IfOk};
-ghost use Rattle.sq_run.specs.Asked.{Judges};
-ghost use Rattle.sq_run.specs.Project.{placed, output_files, written};
+ghost use Rattle.sq_run.specs.Asked.{Judges, each_judged};
+ghost use Rattle.sq_run.specs.Project.{models_of, placed, output_files, written};
 
 use crate::Halt;
-use crate::plan::Output;
+use crate::declare::models_of;
+use crate::joining::{ending, join};
+use crate::outputs::Output;
 use crate::read::{Role, refuse};
 use sq_base::{File, List, Name};
-use sq_core::{ModelDecl, QuerySig};
+use sq_catalog::Catalogue;
+use sq_core::{ModelDecl, QueryFile};
 use sq_go::{go_clash, go_files};
 use std::alloc::{AllocError, Global};
 
@@ -39,7 +42,7 @@ fn output_files(
     alloc: Global,
     output: &Output,
     models: &[ModelDecl],
-    queries: &[QuerySig],
+    queries: &[QueryFile],
 ) -> Result<List<File>, AllocError>
     ensures { IfOk result (λ files. files ≡ output_files output.now models.now queries.now) }
 {
@@ -47,25 +50,58 @@ fn output_files(
     all_placed(alloc, output.path.as_str(), files)
 }
 
-/// The files of these declarations where there is an output, unless two identifiers of one name space are equal.
-pub fn write(
+/// The files of an output, unless two identifiers of one name space are equal.
+fn written(
     alloc: Global,
     configuration: &str,
-    output: &Option<Output>,
     models: &[ModelDecl],
-    queries: &[QuerySig],
+    queries: &[QueryFile],
+    output: &Output,
 ) -> Result<List<File>, Halt>
-    ensures { Judges (written configuration.now output.now models.now queries.now) result }
+    ensures { Judges (written configuration.now models.now queries.now output.now) result }
 {
-    let Some(output) = output else {
-        return Ok(List::new(alloc));
-    };
     match go_clash(alloc, models, queries) {
         Ok(false) => match output_files(alloc, output, models, queries) {
             Ok(files) => Ok(files),
             Err(_) => Err(Halt::Memory),
         },
         Ok(true) => Err(refuse(alloc, Role::Configuration, configuration)),
+        Err(_) => Err(Halt::Memory),
+    }
+}
+
+/// The files of all outputs.
+fn write_all(
+    alloc: Global,
+    configuration: &str,
+    models: &[ModelDecl],
+    queries: &[QueryFile],
+    outputs: &[Output],
+) -> Result<List<File>, Halt>
+    ensures { Judges (each_judged (written configuration.now models.now queries.now) outputs.now) result }
+{
+    let mut so_far = Ok(List::new(alloc));
+    for output in outputs {
+        so_far = join(
+            so_far,
+            written(alloc, configuration, models, queries, output),
+        )?;
+    }
+    ending(so_far)
+}
+
+/// The files of all outputs, for the tables of the catalogue and these queries.
+pub fn write(
+    alloc: Global,
+    configuration: &str,
+    catalogue: &Catalogue,
+    queries: &[QueryFile],
+    outputs: &[Output],
+) -> Result<List<File>, Halt>
+    ensures { Judges (each_judged (written configuration.now (models_of catalogue.now) queries.now) outputs.now) result }
+{
+    match models_of(alloc, catalogue.tables()) {
+        Ok(models) => write_all(alloc, configuration, models.as_slice(), queries, outputs),
         Err(_) => Err(Halt::Memory),
     }
 }

@@ -3,7 +3,10 @@ mod paths;
 mod words;
 
 use crate::disk::{DiskOut, DiskTree};
-use sq_base::{File, List, Listing, MemoryOut, MemorySink, MemoryTree, Name, Out, Tree, TreeFault};
+use sq_base::{
+    File, List, Listing, MemoryOut, MemorySink, MemoryTree, Name, Out, StillOut, StillSink,
+    StillTree, Tree, TreeFault,
+};
 use sq_run::{Status, sqlc};
 use std::alloc::{AllocError, Global};
 use std::test::Fail;
@@ -226,10 +229,10 @@ const SCHEMA_NOT_YET: &str = "schema.sql:1:1: [99] NotYet\n";
 
 const QUERY_NOT_YET: &str = "q.sql:1:1: [99] NotYet\n";
 
-const CLASH: &str = "sqlc.json: [99] NotYet\n";
+const CONFIGURATION_NOT_YET: &str = "sqlc.json: [99] NotYet\n";
 
 /// Schemas, and the line that each is refused with; none where it is accepted.
-const SCHEMAS: [(&str, &str); 35] = [
+const SCHEMAS: [(&str, &str); 38] = [
     ("create Table T (ID Integer not Null, Name TEXT) ;", ""),
     (
         "\n\nCREATE TABLE t\n(\n  id integer NOT NULL,\n  name text\n)\n;\n",
@@ -250,7 +253,7 @@ const SCHEMAS: [(&str, &str); 35] = [
     ),
     (
         "CREATE TABLE t (id integer, name text, aaaaaaaaaaaaaaaaaaaaaaaaaaaaaaaaaaaaaaaaaaaaaaaaaaaaaaaaaaaaaaaa text);",
-        SCHEMA_NOT_YET,
+        "",
     ),
     (
         "CREATE TABLE t (id integer, name text, aaaaaaaaaaaaaaaaaaaaaaaaaaaaaaaaaaaaaaaaaaaaaaaaaaaaaaaaaaaaaaa text);",
@@ -290,7 +293,9 @@ const SCHEMAS: [(&str, &str); 35] = [
         SCHEMA_NOT_YET,
     ),
     ("CREATE TABLE t (id integer,\r\n name text);\r\n", ""),
-    ("", SCHEMA_NOT_YET),
+    ("", CONFIGURATION_NOT_YET),
+    ("-- Nothing.", CONFIGURATION_NOT_YET),
+    (";", SCHEMA_NOT_YET),
     ("CREATE TABLE t ();", SCHEMA_NOT_YET),
     ("CREATE TABLE t (id integer, name text,);", SCHEMA_NOT_YET),
     (
@@ -316,16 +321,20 @@ const SCHEMAS: [(&str, &str); 35] = [
         "q.sql:2:8: [11] UnknownColumn id\n",
     ),
     (
-        "CREATE TABLE t (id integer, name text, \"aaaaaaaaaaaaaaaaaaaaaaaaaaaaaaaaaaaaaaaaaaaaaaaaaaaaaaaaaaaaaaaa\" text);",
+        "CREATE TABLE t (id integer, name text, \"aaaaaaaaaaaaaaaaaaaaaaaaaaaaaaaaaaaaaaaaaaaaaaaaaaaaaaaaaaaaaaa1\" text, \"aaaaaaaaaaaaaaaaaaaaaaaaaaaaaaaaaaaaaaaaaaaaaaaaaaaaaaaaaaaaaaa2\" text);",
         SCHEMA_NOT_YET,
+    ),
+    (
+        "CREATE TABLE t (id integer, name text, \"aaaaaaaaaaaaaaaaaaaaaaaaaaaaaaaaaaaaaaaaaaaaaaaaaaaaaaaaaaaaaa1\" text, aaaaaaaaaaaaaaaaaaaaaaaaaaaaaaaaaaaaaaaaaaaaaaaaaaaaaaaaaaaaaa2 text);",
+        "",
     ),
     (
         "CREATE TABLE t (id \"integer\", name text);",
         SCHEMA_NOT_YET,
     ),
     (
-        "CREATE TABLE t (id integer, name text, na$me text);",
-        SCHEMA_NOT_YET,
+        "CREATE TABLE t (id integer, name text, na$me text, na\u{ef}ve text);",
+        "",
     ),
     (
         "CREATE TABLE public.t (id integer, name text);",
@@ -334,7 +343,7 @@ const SCHEMAS: [(&str, &str); 35] = [
 ];
 
 /// Query files over the schema `t`, and the line that each is refused with; none where it is accepted.
-const QUERY_FILES: [(&str, &str); 34] = [
+const QUERY_FILES: [(&str, &str); 36] = [
     ("-- name: ListT :many\nselect ID,Name From T ;", ""),
     ("-- name: ListT :many\nSELECT id\nFROM t;", ""),
     (
@@ -415,7 +424,18 @@ const QUERY_FILES: [(&str, &str); 34] = [
         "-- name: ListT :many\n\n\n SELECT id FROM\n   Nope ;",
         "q.sql:5:4: [10] UnknownTable nope\n",
     ),
-    ("-- name: WithTx :many\nSELECT id, name FROM t;", CLASH),
+    (
+        "-- name: ListT :many\nSELECT N\u{c4}ME$ FROM t;",
+        "q.sql:2:8: [11] UnknownColumn n\u{c4}me$\n",
+    ),
+    (
+        "-- name: ListT :many\nSELECT AAAAAAAAAAAAAAAAAAAAAAAAAAAAAAAAAAAAAAAAAAAAAAAAAAAAAAAAAAAAAA\u{e4} FROM t;",
+        "q.sql:2:8: [11] UnknownColumn aaaaaaaaaaaaaaaaaaaaaaaaaaaaaaaaaaaaaaaaaaaaaaaaaaaaaaaaaaaaaa\n",
+    ),
+    (
+        "-- name: WithTx :many\nSELECT id, name FROM t;",
+        CONFIGURATION_NOT_YET,
+    ),
     ("-- name: T :many\nSELECT id, name FROM t;", ""),
 ];
 
@@ -424,12 +444,12 @@ const PROJECTS: [(&str, &str, &str); 7] = [
     (
         "CREATE TABLE new (id integer);",
         "-- name: ListNew :many\nSELECT id FROM new;",
-        CLASH,
+        CONFIGURATION_NOT_YET,
     ),
     (
         "CREATE TABLE list_row (a integer, b text);",
         "-- name: List :many\nSELECT b, a FROM list_row;",
-        CLASH,
+        CONFIGURATION_NOT_YET,
     ),
     (
         "CREATE TABLE list_row (a integer, b text);",
@@ -555,7 +575,7 @@ const HELD: [(&[(&str, &str)], &str, u8); 15] = [
     ),
     (
         &[("sqlc.json", CONFIGURATION), ("schema.sql", "")],
-        "schema.sql:1:1: [99] NotYet\n",
+        "sqlc.json: [99] NotYet\n",
         1,
     ),
     (
@@ -591,12 +611,35 @@ const UNWRITTEN: &str =
 const TWO: &str =
     "{\"version\":\"2\",\"sql\":[{\"engine\":\"postgresql\",\"schema\":\"schema.sql\",\"queries\":\"q.sql\",\"gen\":{\"go\":{\"out\":\"a\"}}},{\"engine\":\"postgresql\",\"schema\":\"schema.sql\",\"queries\":\"r.sql\",\"gen\":{\"go\":{\"out\":\"b\"}}}]}";
 
-/// A configuration of two blocks, the first of which asks for more than is built.
+/// A configuration of two blocks, both outputs of the first of which have an option.
 const MORE: &str =
-    "{\"version\":\"2\",\"sql\":[{\"engine\":\"postgresql\",\"schema\":[\"schema.sql\",\"more.sql\"],\"queries\":\"q.sql\"},{\"engine\":\"postgresql\",\"schema\":\"schema.sql\",\"queries\":\"r.sql\"}]}";
+    "{\"version\":\"2\",\"sql\":[{\"engine\":\"postgresql\",\"schema\":\"none.sql\",\"queries\":\"q.sql\",\"gen\":{\"go\":{\"out\":\"a\",\"package\":\"p\"}},\"codegen\":[{\"plugin\":\"go\",\"out\":\"b\",\"options\":{\"package\":\"p\"}}]},{\"engine\":\"postgresql\",\"schema\":\"schema.sql\",\"queries\":\"r.sql\"}]}";
+
+/// A configuration of one block with two files of each key and two outputs.
+const LISTS: &str =
+    "{\"version\":\"2\",\"sql\":[{\"engine\":\"postgresql\",\"schema\":[\"a.sql\",\"b.sql\"],\"queries\":[\"q.sql\",\"sub/r.sql\"],\"gen\":{\"go\":{\"out\":\"a\"}},\"codegen\":[{\"plugin\":\"go\",\"out\":\"b\"}]}]}";
+
+/// A configuration of one block without queries.
+const NO_QUERIES: &str =
+    "{\"version\":\"2\",\"sql\":[{\"engine\":\"postgresql\",\"schema\":\"schema.sql\",\"queries\":[],\"gen\":{\"go\":{\"out\":\"db\"}}}]}";
+
+/// A configuration of one block with two query files of one name.
+const TWINS: &str =
+    "{\"version\":\"2\",\"sql\":[{\"engine\":\"postgresql\",\"schema\":\"schema.sql\",\"queries\":[\"a/q.sql\",\"b/q.sql\"],\"gen\":{\"go\":{\"out\":\"db\"}}}]}";
+
+const NAMES: &str = "-- name: ListN :many\nSELECT name FROM t;";
 
 /// Words over files held, the text that is printed, the status, and the paths of the files put.
-const REQUESTS: [(&[&str], &[(&str, &str)], &str, u8, &[&str]); 15] = [
+type Request = (
+    &'static [&'static str],
+    &'static [(&'static str, &'static str)],
+    &'static str,
+    u8,
+    &'static [&'static str],
+);
+
+/// Requests of single paths.
+const REQUESTS: [Request; 15] = [
     (
         &["compile"],
         &[
@@ -765,7 +808,121 @@ const REQUESTS: [(&[&str], &[(&str, &str)], &str, u8, &[&str]); 15] = [
             ("schema.sql", SCHEMA),
             ("r.sql", "-- name: ListX :many\nSELECT x FROM t;"),
         ],
-        "sqlc.json: [99] NotYet\nr.sql:2:8: [11] UnknownColumn x\n",
+        "sqlc.json: [99] NotYet\nsqlc.json: [99] NotYet\nr.sql:2:8: [11] UnknownColumn x\n",
+        1,
+        &[],
+    ),
+];
+
+/// The same for blocks with any number of paths and outputs.
+const LIST_REQUESTS: [Request; 10] = [
+    (
+        &["generate"],
+        &[
+            ("sqlc.json", LISTS),
+            ("a.sql", "-- Nothing.\n"),
+            ("b.sql", SCHEMA),
+            ("q.sql", QUERY),
+            ("sub/r.sql", NAMES),
+        ],
+        "",
+        0,
+        &[
+            "a/db.go",
+            "a/models.go",
+            "a/q.sql.go",
+            "a/r.sql.go",
+            "b/db.go",
+            "b/models.go",
+            "b/q.sql.go",
+            "b/r.sql.go",
+        ],
+    ),
+    (
+        &["generate"],
+        &[
+            ("sqlc.json", LISTS),
+            ("a.sql", SCHEMA),
+            ("b.sql", "CREATE TABLE u (id integer);"),
+        ],
+        "sqlc.json: [99] NotYet\n",
+        1,
+        &[],
+    ),
+    (
+        &["generate"],
+        &[
+            ("sqlc.json", LISTS),
+            ("a.sql", "SELECT 1;"),
+            ("b.sql", "DROP TABLE t;"),
+        ],
+        "a.sql:1:1: [99] NotYet\nb.sql:1:1: [99] NotYet\n",
+        1,
+        &[],
+    ),
+    (
+        &["generate"],
+        &[("sqlc.json", LISTS), ("a.sql", "'"), ("b.sql", " \"")],
+        "a.sql:1:1: [1] Unterminated\nb.sql:1:2: [1] Unterminated\n",
+        1,
+        &[],
+    ),
+    (
+        &["generate"],
+        &[("sqlc.json", LISTS), ("a.sql", "'")],
+        "b.sql: no such file or folder\n",
+        6,
+        &[],
+    ),
+    (
+        &["generate"],
+        &[("sqlc.json", LISTS), ("a.sql/b", "'"), ("b.sql", "'")],
+        "a.sql:1:1: [99] NotYet\n",
+        1,
+        &[],
+    ),
+    (
+        &["generate"],
+        &[
+            ("sqlc.json", LISTS),
+            ("a.sql", SCHEMA),
+            ("b.sql", ""),
+            ("q.sql", "-- name: ListX :many\nSELECT x FROM t;"),
+            ("sub/r.sql", "-- name: ListU :many\nSELECT id FROM u;"),
+        ],
+        "q.sql:2:8: [11] UnknownColumn x\nsub/r.sql:2:16: [10] UnknownTable u\n",
+        1,
+        &[],
+    ),
+    (
+        &["generate"],
+        &[
+            ("sqlc.json", LISTS),
+            ("a.sql", SCHEMA),
+            ("b.sql", ""),
+            ("q.sql", NAMES),
+            ("sub/r.sql", NAMES),
+        ],
+        "sqlc.json: [99] NotYet\nsqlc.json: [99] NotYet\n",
+        1,
+        &[],
+    ),
+    (
+        &["generate"],
+        &[("sqlc.json", NO_QUERIES), ("schema.sql", SCHEMA)],
+        "",
+        0,
+        &["db/db.go", "db/models.go"],
+    ),
+    (
+        &["generate"],
+        &[
+            ("sqlc.json", TWINS),
+            ("schema.sql", SCHEMA),
+            ("a/q.sql", QUERY),
+            ("b/q.sql", NAMES),
+        ],
+        "sqlc.json: [99] NotYet\n",
         1,
         &[],
     ),
@@ -782,13 +939,25 @@ fn has_put(left: &Remains, paths: &[&str]) -> bool {
             .all(|(file, path)| file.path.as_str() == *path)
 }
 
+/// Whether a run meets a request.
+fn is_met(alloc: Global, request: &Request) -> Result<bool, AllocError> {
+    let (words, held, text, code, paths) = *request;
+    let left = run(alloc, words, held, NONE)?;
+    Ok(ends_as(&left, text, code, paths.len()) && has_put(&left, paths))
+}
+
 #[test]
 fn each_request_is_met(rt: HostRuntime) -> Result<(), Fail> {
-    for (words, held, text, code, paths) in &REQUESTS {
-        let left = run(rt.alloc(), words, held, NONE)?;
-        assert_eq!(rt; left.screen.text(), text.as_bytes(), "at {text}");
-        assert_eq!(rt; left.status.code(), *code, "at {text}");
-        assert!(rt; has_put(&left, paths), "at {text}");
+    for request in &REQUESTS {
+        assert!(rt; is_met(rt.alloc(), request)?, "at {}", request.2);
+    }
+    Ok(())
+}
+
+#[test]
+fn each_request_of_lists_is_met(rt: HostRuntime) -> Result<(), Fail> {
+    for request in &LIST_REQUESTS {
+        assert!(rt; is_met(rt.alloc(), request)?, "at {}", request.2);
     }
     Ok(())
 }
@@ -831,6 +1000,34 @@ fn long_file(alloc: Global) -> Result<List<u8>, AllocError> {
     }
     bytes.push(b' ')?;
     Ok(bytes)
+}
+
+/// A project whose schema is so many files, the first of which has the table.
+fn many_files(alloc: Global, count: usize) -> Result<List<File>, AllocError> {
+    let mut files = List::new(alloc);
+    let mut paths = String::new(alloc);
+    for number in 0..count {
+        let path = format!(in alloc; "s{number}.sql")?;
+        let schema = if number == 0 { SCHEMA } else { "" };
+        files.push(file(alloc, path.as_str(), schema)?)?;
+        let mark = if number == 0 { "" } else { "," };
+        paths.push_str(format!(in alloc; "{mark}\"{path}\"")?.as_str())?;
+    }
+    let front =
+        "{\"version\":\"2\",\"sql\":[{\"engine\":\"postgresql\",\"queries\":[],\"schema\":[";
+    let configuration = format!(in alloc; "{front}{paths}]}}]}}")?;
+    files.push(file(alloc, "sqlc.json", configuration.as_str())?)?;
+    Ok(files)
+}
+
+#[test]
+fn a_key_has_256_files_at_most(rt: HostRuntime) -> Result<(), Fail> {
+    let alloc = rt.alloc();
+    let most = run_over(alloc, &["generate"], many_files(alloc, 256)?, NONE)?;
+    assert!(rt; ends_as(&most, "", 0, 0));
+    let more = run_over(alloc, &["generate"], many_files(alloc, 257)?, NONE)?;
+    assert!(rt; ends_as(&more, "s256.sql:1:1: [9] TooManyFiles\n", 1, 0));
+    Ok(())
 }
 
 /// Calls that fail, the text that `generate` then prints, its status, and the number of files put.
@@ -958,6 +1155,18 @@ fn each_run_ends_as_it_is_to(rt: HostRuntime) -> Result<(), Fail> {
 }
 
 #[test]
+fn a_failing_read_is_told_with_its_path(rt: HostRuntime) -> Result<(), Fail> {
+    let failing = Failing {
+        reads: &[0],
+        puts: &[],
+        writes: &[],
+    };
+    let left = run(rt.alloc(), &["generate", "-f", "nope.json"], &[], failing)?;
+    assert!(rt; ends_as(&left, "nope.json: cannot be read\n", 3, 0));
+    Ok(())
+}
+
+#[test]
 fn a_failing_screen_is_a_write_fault(rt: HostRuntime) -> Result<(), Fail> {
     let failing = Failing {
         reads: &[],
@@ -967,6 +1176,29 @@ fn a_failing_screen_is_a_write_fault(rt: HostRuntime) -> Result<(), Fail> {
     let left = run(rt.alloc(), &[], &[], failing)?;
     let text = "usage: sqlc generate|compile|signatures [-f PATH | --file PATH | --file=PATH]\n";
     assert!(rt; ends_as(&left, text, 4, 0));
+    Ok(())
+}
+
+#[test]
+fn where_no_call_fails_the_project_is_written(rt: HostRuntime) -> Result<(), Fail> {
+    let alloc = rt.alloc();
+    let mut files = List::new(alloc);
+    files.push(file(alloc, "sqlc.json", CONFIGURATION)?)?;
+    files.push(file(alloc, "schema.sql", SCHEMA)?)?;
+    files.push(file(alloc, "q.sql", QUERY)?)?;
+    let mut words = Vec::new(alloc);
+    words.push(String::from_str(alloc, "generate")?)?;
+    let mut tree = StillTree::new(alloc, files)?;
+    let mut out = StillOut::new(alloc, List::new(alloc))?;
+    let mut screen = StillSink::new(alloc)?;
+    let status = sqlc(alloc, words, &mut tree, &mut out, &mut screen);
+    assert_eq!(rt; status, Status::Done);
+    assert_eq!(rt; out.files().len(), 3);
+    assert!(rt; screen.text().is_empty());
+    assert_eq!(rt; tree.faults(), 0);
+    assert_eq!(rt; out.faults(), 0);
+    assert!(rt; matches!(tree.read(alloc, "r.sql", 3), Err(TreeFault::Missing)));
+    assert_eq!(rt; tree.missings(), 1);
     Ok(())
 }
 

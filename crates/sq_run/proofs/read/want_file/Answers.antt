@@ -1,5 +1,8 @@
-use Rattle.sq_run.proofs.Files.{list_folder, list_halted}
+use Rattle.sq_run.proofs.Files.{list_folder, list_found, list_halted}
 use Rattle.sq_run.proofs.read.want_file.Goals as goal
+
+pub returns-in-Ok-File : goal.returns-in-Ok-File
+returns-in-Ok-File g c = let answered = rw c.in-Ok-File.field-0-is at c.in-Ok-File.ensures in list_found c.found.result answered.call answered.answer c.found.ensures
 
 pub returns-in-Ok-Folder : goal.returns-in-Ok-Folder
 returns-in-Ok-Folder g c = let answered = rw c.in-Ok-Folder.field-0-is at c.in-Ok-Folder.ensures in list_folder c.refuse.result answered.call answered.answer c.refuse.ensures

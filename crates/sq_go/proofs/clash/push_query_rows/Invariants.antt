@@ -1,8 +1,0 @@
-use Rattle.std.proofs.Common.{◌≡◌, ◌++◌, take}
-use Rattle.std.specs.List.{flat_map}
-use Rattle.sq_core.specs.Names.{query_row}
-use Rattle.sq_go.proofs.clash.push_query_rows.Given as goal
-
--- the queries so far
-abbrev pub invariant-loop-query : goal.invariant-loop-query
-invariant-loop-query l = l.names ≡ l.fn.names ++ flat_map (query_row l.models) (take l.query-index l.queries)

@@ -153,15 +153,17 @@ abbrev pub deepest : List Piece → ℕ → ℕ
 deepest [] n = n
 deepest (piece ∷ pieces) n = piece_opens piece (deepest pieces n)
 
+-- the greatest of these numbers of the parts
+abbrev pub most : (Facts → ℕ) → List Piece → ℕ
+most of [] = 0
+most of (Piece.part least x ∷ pieces) = max (of x) (most of pieces)
+most of (_ ∷ pieces) = most of pieces
+
 abbrev pub highest : List Piece → ℕ
-highest [] = 0
-highest (Piece.part least x ∷ pieces) = max x.height (highest pieces)
-highest (_ ∷ pieces) = highest pieces
+highest pieces = most (λ x. x.height) pieces
 
 abbrev pub most_layers : List Piece → ℕ
-most_layers [] = 0
-most_layers (Piece.part least x ∷ pieces) = max x.layers (most_layers pieces)
-most_layers (_ ∷ pieces) = most_layers pieces
+most_layers pieces = most (λ x. x.layers) pieces
 
 abbrev pub only_if : Bool → ℕ → Option ℕ
 only_if holds level = if holds then Some level else None

@@ -5,7 +5,10 @@
 mod class;
 mod expr;
 mod item;
+mod measure;
 mod name;
+mod part;
+mod part_query;
 mod query;
 mod symbol;
 mod token;
@@ -17,6 +20,7 @@ pub use expr::{
     Quantifier, Sign, Sort, Test,
 };
 pub use item::{ItemKind, Stop};
+pub use measure::{height, query_height};
 pub use name::{ColumnName, Identifier, QualifiedName, TimeZone, TypeName, TypeWord};
 pub use query::{
     Alias, Distinctness, Factor, From, Join, JoinKind, Label, Limit, Lock, Matched, Materialized,

@@ -58,12 +58,12 @@ head_fits fits (x ∷ rest) = fits x.reading
 abbrev pub Starts : (Reading → Bool) → Parser Expr → Type 0
 Starts fits p = (now next : Stream) (x : Expr) → p now ≡ Some (x, next) → head_fits fits now.tokens ≡ true
 
-chain_starts : {L : Type 0} (fits : Reading → Bool) (more : Stream → Bool) (link : Parser L) (place : L → Place) (make : Expr → List L → Expression) (operand : Parser Expr) → Starts fits operand → Starts fits (chain more link place make operand)
+pub chain_starts : {L : Type 0} (fits : Reading → Bool) (more : Stream → Bool) (link : Parser L) (place : L → Place) (make : Expr → List L → Expression) (operand : Parser Expr) → Starts fits operand → Starts fits (chain more link place make operand)
 chain_starts fits more link place make operand st now next x h =
     let p = part_of (operand now) (λ first. many more link >>= (λ links. chained now place make first links)) (x, next) h in
     st now p.next p.value p.is
 
-or_right : (a b : Bool) → b ≡ true → a || b ≡ true
+pub or_right : (a b : Bool) → b ≡ true → a || b ≡ true
 or_right true b h = refl
 or_right false b h = h
 
@@ -72,7 +72,7 @@ unfolding many_from
 none_many more mark zero now h = refl
 none_many more mark (suc k) now h = rw h refl
 
-prefix_starts : {L : Type 0} (fits : Reading → Bool) (more : Stream → Bool) (mark : Parser L) (place : L → Place) (make : List L → Expr → Expression) (operand : Parser Expr)
+pub prefix_starts : {L : Type 0} (fits : Reading → Bool) (more : Stream → Bool) (mark : Parser L) (place : L → Place) (make : List L → Expr → Expression) (operand : Parser Expr)
     → ((now : Stream) → more now ≡ true → head_fits fits now.tokens ≡ true) → Starts fits operand → Starts fits (prefix more mark place make operand)
 prefix_starts fits more mark place make operand marked st now next x h = by_more (more now) refl
   where

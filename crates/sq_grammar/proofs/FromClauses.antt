@@ -29,10 +29,10 @@ use Rattle.sq_grammar.proofs.FromItems.{from_at_read}
 abbrev pub from_goes_on : Stream → Bool
 from_goes_on u = not (nat_le 3 (rank u.tokens))
 
-from_ends : (u : Stream) → from_goes_on u ≡ false → 3 ≤ rank u.tokens
+pub from_ends : (u : Stream) → from_goes_on u ≡ false → 3 ≤ rank u.tokens
 from_ends u h = grind (arith, common_steps)
 
-ends_from : (u : Stream) → 3 ≤ rank u.tokens → from_goes_on u ≡ false
+pub ends_from : (u : Stream) → 3 ≤ rank u.tokens → from_goes_on u ≡ false
 ends_from u h = grind (arith, common_steps)
 
 abbrev comma_from : From → List Piece
@@ -53,7 +53,7 @@ module _ (expr : Parser Expr) (inner : Parser Query) (k : ℕ) (read : ReadsTo k
   abbrev from_items : Parser (List From)
   from_items = expect s.From >>= (λ _. from_item >>= (λ y. many (sees s.Comma) next_from >>= (λ ys. pure (y ∷ ys))))
 
-  item_read : (x : From) (rest : List Piece) (now next : Stream) → Run (p.whole (from_facts x) ∷ rest) k now next → ((u : Stream) → Run rest k u next → from_goes_on u ≡ false) → Gives (from_item now) x rest k next
+  pub item_read : (x : From) (rest : List Piece) (now next : Stream) → Run (p.whole (from_facts x) ∷ rest) k now next → ((u : Stream) → Run rest k u next → from_goes_on u ≡ false) → Gives (from_item now) x rest k next
   item_read x rest now next run stop = (run.0, from_at_read expr inner k read queries (length now.tokens) x now run.0 run.1 run.2 run.3 (from_ends run.0 (stop run.0 run.4)) (omega arith), run.4)
 
   next_item : Item k (sees s.Comma) next_from comma_from from_goes_on

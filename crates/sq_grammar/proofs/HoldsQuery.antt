@@ -83,13 +83,13 @@ follow_locks (x ∷ xs) = record { follow = λ now next a stop. ap goes_on_query
 
 -- ---- a query behind its first factor
 
-abbrev tight_pieces : Operands Facts → List Piece
+abbrev pub tight_pieces : Operands Facts → List Piece
 tight_pieces = f.operands true (λ y. p.whole y ∷ [])
 
-abbrev links_of : QueryLayer → List Piece
+abbrev pub links_of : QueryLayer → List Piece
 links_of l = flat_map (f.set_link true (λ y. p.whole y ∷ [])) (map (link_facts factor_facts) l.body.first.links) ++ flat_map (f.set_link false tight_pieces) (map (link_facts (operands_facts factor_facts)) l.body.links)
 
-abbrev rest_of : QueryLayer → List Piece
+abbrev pub rest_of : QueryLayer → List Piece
 rest_of l = (((links_of l ++ g.order (map sort_facts l.order)) ++ f.limit_pieces (limit_facts l.limit)) ++ f.offset (offset_facts l.offset)) ++ flat_map f.lock l.locks
 
 rest_follows : (l : QueryLayer) → Follow (rest_of l)

@@ -30,7 +30,7 @@ counts : Counts counted
 counts = record { one = λ x rest n. refl }
 
 -- the readings of a tree's tokens nest as deep as the tree
-abbrev NestsAsDeep : Facts → Type 0
+abbrev pub NestsAsDeep : Facts → Type 0
 NestsAsDeep x = from 0 x.level ≡ true → (n : ℕ) → depth_before (readings x.marks) n ≡ max x.depth n
 
 pub tree_nests : (x : Expr) → NestsAsDeep (tree_facts x)
@@ -56,17 +56,17 @@ select_nests x h n = ((below counted counts (select_facts x).layers).selects x (
 
 -- ---- tokens
 
-abbrev tokens_readings : Lexemes → List Reading
+abbrev pub tokens_readings : Lexemes → List Reading
 tokens_readings tokens = map (λ x. x.reading) tokens
 
-along_depth : (marks : List Mark) (now next : Stream) → Along marks now next → (n : ℕ) → depth_before (tokens_readings now.tokens) n ≡ depth_before (readings marks) (depth_before (tokens_readings next.tokens) n)
+pub along_depth : (marks : List Mark) (now next : Stream) → Along marks now next → (n : ℕ) → depth_before (tokens_readings now.tokens) n ≡ depth_before (readings marks) (depth_before (tokens_readings next.tokens) n)
 along_depth [] now next h n = ap (λ (u : Stream). depth_before (tokens_readings u.tokens) n) h
 along_depth (Mark.says r ∷ marks) now next h n = ap (λ tokens. depth_before (tokens_readings tokens) n) h.1.first ∙ ap (opens (turn r)) (along_depth marks h.0 next h.2 n)
 along_depth (Mark.stands_at place ∷ marks) now next h n = along_depth marks now next h.1 n
 along_depth (Mark.begins i ∷ marks) now next h n = along_depth marks now next h.1 n
 along_depth (Mark.ends i ∷ marks) now next h n = along_depth marks now next h.1 n
 
-lexemes_depth : (tokens : List Token) (n : ℕ) → depth_before (map (λ token. (lexeme token).reading) tokens) n ≡ depth_before (tokens_readings (map lexeme tokens)) n
+pub lexemes_depth : (tokens : List Token) (n : ℕ) → depth_before (map (λ token. (lexeme token).reading) tokens) n ≡ depth_before (tokens_readings (map lexeme tokens)) n
 lexemes_depth [] n = refl
 lexemes_depth (x ∷ tokens) n = ap (opens (turn (lexeme x).reading)) (lexemes_depth tokens n)
 
@@ -78,7 +78,7 @@ along_length (Mark.stands_at place ∷ marks) now next h = along_length marks no
 along_length (Mark.begins i ∷ marks) now next h = along_length marks now next h.1
 along_length (Mark.ends i ∷ marks) now next h = along_length marks now next h.1
 
-max_zero : (n : ℕ) → max n 0 ≡ n
+pub max_zero : (n : ℕ) → max n 0 ≡ n
 max_zero n = omega arith
 
 pub expression_depth : (tokens : List Token) (x : Expr) → IsExpression tokens x → nesting_depth tokens ≡ (tree_facts x).depth

@@ -18,12 +18,12 @@ use Rattle.sq_grammar.proofs.ReadsBelow.{closes, ReadsBelow}
 use Rattle.sq_grammar.proofs.ReadQueries.{reads_query}
 
 -- parsers that read what nests less deep than this
-record ReadsBoth (d : ℕ) (p : Parsers) : Type 0 where
+pub record ReadsBoth (d : ℕ) (p : Parsers) : Type 0 where
   pub reads : (x : Expr) (now next : Stream) → from 0 (tree_facts x).level ≡ true → (tree_facts x).depth < d → Along (tree_facts x).marks now next → goes_on 0 next ≡ false → p.expressions now ≡ Some (x, next)
   pub starts : Starts starts_negated p.expressions
   pub queries : ReadsBelow d p.queries
 
-inside : (d : ℕ) (p : Parsers) → ReadsBoth d p → Inside d p.expressions p.queries
+pub inside : (d : ℕ) (p : Parsers) → ReadsBoth d p → Inside d p.expressions p.queries
 inside d p b = record { reads = b.reads; starts = b.starts; queries = λ x now next h less a stop. b.queries x now next h less a (closes next.tokens stop) }
 
 reads_deeper : (d : ℕ) (p : Parsers) → ReadsBoth d p → ReadsBoth (suc d) (deeper p)
@@ -36,7 +36,7 @@ reads_deeper d p b =
       queries = reads_query d (expression p.expressions p.queries) p.queries here starts (expression_unstarred p.expressions p.queries b.starts) b.queries;
     }
 
-reads_at : (d : ℕ) → ReadsBoth d (parsers d)
+pub reads_at : (d : ℕ) → ReadsBoth d (parsers d)
 unfolding parsers
 reads_at zero = record {
   reads = λ x now next h less a stop. absurd (omega (arith, less));

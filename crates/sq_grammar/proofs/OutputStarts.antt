@@ -33,7 +33,7 @@ star_first : (tokens : Lexemes) → begins s.Times tokens ≡ true → head_fits
 star_first [] h = absurd (cc)
 star_first (x ∷ rest) h = first_of (is s.Times x.reading) _ h
 
-name_first : (n : ℕ) (tokens : Lexemes) (y : Identifier) (next : Stream) → name (record { at = n; tokens = tokens }) ≡ Some (y, next) → head_fits is_name tokens ≡ true
+pub name_first : (n : ℕ) (tokens : Lexemes) (y : Identifier) (next : Stream) → name (record { at = n; tokens = tokens }) ≡ Some (y, next) → head_fits is_name tokens ≡ true
 unfolding name
 name_first n [] y next h = absurd (none_some h)
 name_first n (x ∷ rest) y next h = by_name (is_name x.reading) refl

@@ -93,7 +93,7 @@ module _ (expr : Parser Expr) (inner : Parser Query) (k : ℕ) (read : ReadsTo k
         l.2,
       )
 
-  output_read : (x : Node (Output Expr)) (rest : List Piece) (now next : Stream) → Run (f.output_pieces (output_facts x) ++ rest) k now next → EndsOutput rest k next → Gives (output expr inner now) x rest k next
+  pub output_read : (x : Node (Output Expr)) (rest : List Piece) (now next : Stream) → Run (f.output_pieces (output_facts x) ++ rest) k now next → EndsOutput rest k next → Gives (output expr inner now) x rest k next
   unfolding output
   output_read x rest now next run ends =
       let shown = f.shown (output_form x.form) in
@@ -112,7 +112,7 @@ module _ (expr : Parser Expr) (inner : Parser Query) (k : ℕ) (read : ReadsTo k
   abbrev next_output : Parser (Node (Output Expr))
   next_output = expect s.Comma >> output expr inner
 
-  comma_ends : (now next : Stream) → Rattle.sq_syntax.specs.Facts.Says (reading.Symbol s.Comma) now next → output_goes_on now ≡ false
+  pub comma_ends : (now next : Stream) → Rattle.sq_syntax.specs.Facts.Says (reading.Symbol s.Comma) now next → output_goes_on now ≡ false
   unfolding same
   comma_ends now next h =
       neither _ _ (says_goes 0 (reading.Symbol s.Comma) now next h) (

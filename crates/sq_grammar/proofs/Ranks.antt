@@ -1,6 +1,7 @@
 -- The parts of a query stand in one order, so that each token that begins a part ends every part before it.
 use Rattle.std.proofs.Common.{◌≡◌, ℕ, ◌≤◌, Bool, true, false, List, [], ◌∷◌, refl, ap, arith}
-use Rattle.std.specs.Prelude.{◌<◌}
+use Rattle.std.specs.Prelude.{◌<◌, bytes_eq, codes}
+use Rattle.std.proofs.lemmas.Slice.Eq.{bytes_eq-Decides}
 use Rattle.sq_syntax.specs.declared.symbol.Symbol.{Symbol}
 use Rattle.sq_syntax.specs.declared.symbol.Symbol.TheVariants as s
 use Rattle.sq_syntax.specs.declared.symbol.Reading.{Reading}
@@ -20,7 +21,6 @@ use Rattle.sq_grammar.proofs.Lists.{EndsList}
 
 -- the place of a symbol in the order of the parts: those of a source first, then those of a list, then the clauses; none is that of what begins no part
 abbrev pub symbol_rank : Symbol → ℕ
-symbol_rank s.On = 1
 symbol_rank s.Using = 1
 symbol_rank s.Cross = 2
 symbol_rank s.Join = 2
@@ -41,10 +41,18 @@ symbol_rank s.Limit = 11
 symbol_rank s.Offset = 12
 symbol_rank s.For = 13
 symbol_rank s.Close = 14
+symbol_rank s.On = 14
 symbol_rank _ = 0
+
+-- RETURNING and DO stand behind whole queries and conditions, as the ON of ON CONFLICT does
+abbrev pub word_rank : Bool → Bool → ℕ
+word_rank true b = 14
+word_rank false true = 14
+word_rank false false = 0
 
 abbrev pub reading_rank : Reading → ℕ
 reading_rank (reading.Symbol x) = symbol_rank x
+reading_rank (reading.Word word) = word_rank (bytes_eq word (codes "returning")) (bytes_eq word (codes "do"))
 reading_rank _ = 0
 
 abbrev pub rank : Lexemes → ℕ
@@ -115,8 +123,14 @@ symbol_ends s.For rest h = (refl, refl)
 symbol_ends s.Close rest h = (refl, refl)
 symbol_ends _ rest h = absurd (omega (arith, h))
 
+word_ends : (word : List ℕ) (a b : Bool) → bytes_eq word (codes "returning") ≡ a → bytes_eq word (codes "do") ≡ b → 1 ≤ word_rank a b → is_bare_label (reading.Word word) ≡ false
+word_ends word true b e k h = ap (λ w. is_bare_label (reading.Word w)) ((bytes_eq-Decides word (codes "returning")).0 e)
+word_ends word false true e k h = ap (λ w. is_bare_label (reading.Word w)) ((bytes_eq-Decides word (codes "do")).0 k)
+word_ends word false false e k h = absurd (omega (arith, h))
+
 reading_ends : (r : Reading) (rest : Lexemes) → 1 ≤ reading_rank r → (from 0 (reading_binds r rest) ≡ false) × (is_bare_label r ≡ false)
 reading_ends (reading.Symbol x) rest h = symbol_ends x rest h
+reading_ends (reading.Word word) rest h = (refl, word_ends word (bytes_eq word (codes "returning")) (bytes_eq word (codes "do")) refl refl h)
 reading_ends _ rest h = absurd (omega (arith, h))
 
 -- no part goes on with the expression or the name before it

@@ -93,7 +93,7 @@ module _ (expr : Parser Expr) (inner : Parser Query) (k : ℕ) (read : ReadsTo k
   to_body start withs = body expr inner >>= to_order start withs
 
   parts_read : (place : Place) (first last : ℕ) (withs : List (With Query)) (operations : Operands (Operands Factor)) (sorts : List (SortItem Expr)) (limited : Option (Limit Expr)) (skipped : Option (Offset Expr)) (locks : List Lock) (now next : Stream)
-      → Run (query_pieces place withs operations sorts limited skipped locks ++ []) k now next → first ≡ now.at → suc last ≡ next.at → is_over next.tokens ≡ true
+      → Run (query_pieces place withs operations sorts limited skipped locks ++ []) k now next → first ≡ now.at → suc last ≡ next.at → 14 ≤ rank next.tokens
       → query expr inner now ≡ Some (roll-Query (query_of place first last withs operations sorts limited skipped locks), next)
   unfolding query same
   parts_read place first last withs operations sorts limited skipped locks now next run begun end over =
@@ -102,7 +102,7 @@ module _ (expr : Parser Expr) (inner : Parser Query) (k : ℕ) (read : ReadsTo k
       let past_limited = f.limit_pieces (limit_facts limited) ++ past_skipped in
       let past_sorted = g.order (map sort_facts sorts) ++ past_limited in
       let past_withs = f.body (body_facts operations) ++ past_sorted in
-      let behind_all : Behind 14 [] k next = λ u r. omega (arith, over_rank next.tokens over, ap (λ (v : Stream). rank v.tokens) r) in
+      let behind_all : Behind 14 [] k next = λ u r. omega (arith, over, ap (λ (v : Stream). rank v.tokens) r) in
       let before_locks : Behind 13 locked k next = past_locks locks 13 14 k [] next (omega arith) (omega arith) behind_all in
       let before_offset : Behind 12 past_skipped k next = past_offset skipped 12 13 k locked next (omega arith) (omega arith) before_locks in
       let before_limit : Behind 11 past_limited k next = past_limit limited 11 12 k past_skipped next (omega arith) (omega arith) before_offset in
@@ -129,15 +129,16 @@ module _ (expr : Parser Expr) (inner : Parser Query) (k : ℕ) (read : ReadsTo k
       ∙ ap (λ at. Some (roll-Query (query_of at first last withs operations sorts limited skipped locks), next)) (stands_here place now.tokens all.0)
 
   layer_read : (l : QueryLayer) (now next : Stream) → let z = f.query_layer (query_with l.place l.first l.last l.with l.body l.order l.limit l.offset l.locks) in
-      from 0 z.level ≡ true → z.depth ≤ k → Along z.marks now next → is_over next.tokens ≡ true → query expr inner now ≡ Some (roll-Query l, next)
+      from 0 z.level ≡ true → z.depth ≤ k → Along z.marks now next → 14 ≤ rank next.tokens → query expr inner now ≡ Some (roll-Query l, next)
   layer_read l now next ok le a over =
       let pieces = query_pieces l.place l.with l.body l.order l.limit l.offset l.locks in
       let m = along_split (marks_of pieces) (Mark.ends l.last ∷ []) now next a.1 in
       let run = subst (λ u. Run pieces k now u) m.2.1 (wholly pieces k now m.0 ok le m.1) in
       parts_read l.place l.first l.last l.with l.body l.order l.limit l.offset l.locks now next (subst (λ ps. Run ps k now next) (sym (append-nil pieces)) run) a.0 (m.2.0 ∙ ap (λ (u : Stream). u.at) m.2.1) over
 
-  pub query_read : (x : Query) (now next : Stream) → from 0 (query_facts x).level ≡ true → (query_facts x).depth ≤ k → Along (query_facts x).marks now next → is_over next.tokens ≡ true → query expr inner now ≡ Some (x, next)
-  query_read x now next ok le a over =
+  -- a query is read where nothing that stands behind goes on with it
+  pub query_before : (x : Query) (now next : Stream) → from 0 (query_facts x).level ≡ true → (query_facts x).depth ≤ k → Along (query_facts x).marks now next → 14 ≤ rank next.tokens → query expr inner now ≡ Some (x, next)
+  query_before x now next ok le a over =
       let l = out-Query x in
       let e = query_out x ∙ ap f.query_layer (query_parts_of l) in
       layer_read l now next
@@ -146,6 +147,9 @@ module _ (expr : Parser Expr) (inner : Parser Query) (k : ℕ) (read : ReadsTo k
       (subst (λ (z : Facts). Along z.marks now next) e a)
       over
       ∙ ap (λ y. Some (y, next)) (roll-out-Query x)
+
+  pub query_read : (x : Query) (now next : Stream) → from 0 (query_facts x).level ≡ true → (query_facts x).depth ≤ k → Along (query_facts x).marks now next → is_over next.tokens ≡ true → query expr inner now ≡ Some (x, next)
+  query_read x now next ok le a over = query_before x now next ok le a (over_rank next.tokens over)
 
 pub reads_query : (d : ℕ) (expr : Parser Expr) (inner : Parser Query) → Reads d 0 expr → Starts starts_negated expr → Unstarred expr → ReadsBelow d inner → ReadsBelow (suc d) (query expr inner)
 reads_query d expr inner read starts unstarred queries x now next h less a stop =

@@ -43,7 +43,7 @@ past_from : (xs : List From) (n m d : ℕ) (rest : List Piece) (next : Stream) �
 past_from [] n m d rest next low less behind u run = omega (arith, less, behind u run)
 past_from (x ∷ xs) n m d rest next low less behind u run = behind_word s.From n u run.0 run.1 low
 
-output_behind : (rest : List Piece) (d : ℕ) (next : Stream) → Behind 4 rest d next → EndsOutput rest d next
+pub output_behind : (rest : List Piece) (d : ℕ) (next : Stream) → Behind 4 rest d next → EndsOutput rest d next
 output_behind rest d next behind u run =
     neither _ _ (stops_behind 4 rest d next behind (omega arith) u run) (
     neither _ _ (label_behind 4 rest d next behind (omega arith) u run).0 (

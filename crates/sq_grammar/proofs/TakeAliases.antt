@@ -23,7 +23,7 @@ use Rattle.sq_grammar.proofs.TakeNames.{name_took, name_calls, only_some, word_s
 
 -- ---- names
 
-bare_names : (r : Reading) → is_bare_label r ≡ true → is_name r ≡ true
+pub bare_names : (r : Reading) → is_bare_label r ≡ true → is_name r ≡ true
 bare_names (reading.Symbol s.Character) h = absurd (cc)
 bare_names (reading.Symbol s.Filter) h = absurd (cc)
 bare_names (reading.Symbol s.Precision) h = absurd (cc)
@@ -43,7 +43,7 @@ bare_name_took now next x h =
     let w = word_spelled r.reading r.says.place x (name_calls r.reading (bare_names r.reading k.0)) k.1 proper in
     (ap is_bare_label w.0 ∙ k.0, w.0, w.1))
 
-comma_name_took : Spells comma_name next_name
+pub comma_name_took : Spells comma_name next_name
 comma_name_took now next x h = let one = behind h in expected one.first then name_took one.mid next x one.second
 
 -- names, one or more
@@ -62,12 +62,12 @@ names_took now next xs h =
     let made : Named (x ∷ two.value) now two.mid = record { took = subst (λ ps. Took ps now two.mid) (sym (names_pieces x two.value)) f; some = refl } in
     subst (λ u. Named xs now u) e.1 (subst (λ ys. Named ys now two.mid) e.0 made)
 
-some_names : (xs : List Identifier) (now next : Stream) → not (p.is_empty xs) ≡ true → Took (word s.Open ∷ p.names xs ++ word s.Close ∷ []) now next → Took (p.bracketed_names xs) now next
+pub some_names : (xs : List Identifier) (now next : Stream) → not (p.is_empty xs) ≡ true → Took (word s.Open ∷ p.names xs ++ word s.Close ∷ []) now next → Took (p.bracketed_names xs) now next
 some_names [] now next some took = absurd (cc)
 some_names (x ∷ xs) now next some took = took
 
 -- the same without a condition
-unneeded : {b : Bool} {pieces : List Piece} {now next : Stream} → Took (word s.Open ∷ Piece.need b ∷ pieces) now next → Took (word s.Open ∷ pieces) now next
+pub unneeded : {b : Bool} {pieces : List Piece} {now next : Stream} → Took (word s.Open ∷ Piece.need b ∷ pieces) now next → Took (word s.Open ∷ pieces) now next
 unneeded {b} {pieces} {now} {next} took = record { holds = λ l. (both b (all_hold pieces) (took.holds l)).1; along = λ l. took.along l }
 
 -- names in brackets

@@ -179,7 +179,7 @@ module _ (expr : Parser Expr) (inner : Parser Query) (n : Spells (tree 0) expr) 
   comma_with_took : Spells comma_with (next_with expr inner)
   comma_with_took now next x h = let one = behind h in expected one.first then with_took one.mid next x one.second
 
-  withs_took : Spells (λ xs. f.with_queries (map with_facts xs)) (with_queries expr inner)
+  pub withs_took : Spells (λ xs. f.with_queries (map with_facts xs)) (with_queries expr inner)
   unfolding with_queries
   withs_took now next xs h = elim (chosen {b = sees s.With now} h) [
     | inl (b, k) ↦

@@ -200,7 +200,7 @@ module _ (expr : Parser Expr) (inner : Parser Query) (n : Spells (tree 0) expr) 
   from_at_took zero now next x h = absurd (cc)
   from_at_took (suc k) now next x h = from_over_took (from_at expr inner k) (from_at_took k) now next x h
 
-  from_item_took : Spells from_tree (from_item expr inner)
+  pub from_item_took : Spells from_tree (from_item expr inner)
   from_item_took now next x h = from_at_took (length now.tokens) now next x h
 
   abbrev comma_from : From → List Piece

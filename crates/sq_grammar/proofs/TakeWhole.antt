@@ -72,7 +72,7 @@ takes_query expr inner n i = record { takes = λ now next x l h. whole_parts x n
 
 -- ---- at each depth
 
-record TakesBoth (p : Parsers) : Type 0 where
+pub record TakesBoth (p : Parsers) : Type 0 where
   pub expressions : Takes 0 p.expressions
   pub queries : TakesQueries p.queries
 
@@ -81,7 +81,7 @@ takes_deeper p t =
     let first = takes_expression p.expressions p.queries t.expressions t.queries in
     record { expressions = first; queries = takes_query (expression p.expressions p.queries) p.queries first t.queries }
 
-takes_at : (d : ℕ) → TakesBoth (parsers d)
+pub takes_at : (d : ℕ) → TakesBoth (parsers d)
 unfolding parsers
 takes_at zero = record { expressions = record { takes = λ now next x l h. absurd (cc) }; queries = record { takes = λ now next x l h. absurd (cc) } }
 takes_at (suc d) = takes_deeper (parsers d) (takes_at d)
@@ -92,11 +92,11 @@ none_left : {A : Type 0} (x y : A) (tokens : Lexemes) → where_none_is_left x t
 none_left x y [] h = (same_some h, refl)
 none_left x y (z ∷ rest) h = absurd (cc)
 
-finished_at : {A : Type 0} (o : Outcome A) (x : A) → finished o ≡ Some x → (next : Stream) × (o ≡ Some (x, next)) × (next.tokens ≡ [])
+pub finished_at : {A : Type 0} (o : Outcome A) (x : A) → finished o ≡ Some x → (next : Stream) × (o ≡ Some (x, next)) × (next.tokens ≡ [])
 finished_at None x h = absurd (cc)
 finished_at (Some p) x h = let n = none_left p.0 x p.1.tokens h in (p.1, ap (λ y. Some (y, p.1)) n.0, n.1)
 
-at_end : (tokens : List Token) (marks : List Mark) (next : Stream) → next.tokens ≡ [] → Along marks (stream 0 tokens) next → Along marks (stream 0 tokens) (stream (length tokens) [])
+pub at_end : (tokens : List Token) (marks : List Mark) (next : Stream) → next.tokens ≡ [] → Along marks (stream 0 tokens) next → Along marks (stream 0 tokens) (stream (length tokens) [])
 at_end tokens marks next h a =
     let count : next.at ≡ length tokens = omega (arith, along_counts marks (stream 0 tokens) next a, along_length marks (stream 0 tokens) next a, length-map tokens lexeme, ap (λ (rest : Lexemes). length rest) h) in
     let end : next ≡ stream (length tokens) [] = ap (λ (rest : Lexemes). record { at = next.at; tokens = rest }) h ∙ ap (λ (n : ℕ). stream n []) count in

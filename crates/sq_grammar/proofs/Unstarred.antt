@@ -183,7 +183,7 @@ not_starred p one n x a b r t rest y next dot times h stop =
     let at_star = subst (λ q. p (record { at = n; tokens = x ∷ record { reading = reading.Symbol s.Dot; place = a } ∷ record { reading = q; place = b } ∷ rest }) ≡ Some (y, next)) times at_dot in
     false_true (sym stop ∙ ap (λ u. goes_on 0 u) (one n x a b rest y next at_star))
 
-symbol_is : (k : Symbol) (r : Reading) → is k r ≡ true → r ≡ reading.Symbol k
+pub symbol_is : (k : Symbol) (r : Reading) → is k r ≡ true → r ≡ reading.Symbol k
 symbol_is k (reading.Symbol x) h = ap (λ y. reading.Symbol y) (same_is x k h)
 symbol_is k _ h = absurd (cc)
 

@@ -4,5 +4,7 @@ pub mod Names
 pub mod Primaries
 pub mod Queries
 pub mod Reading
+pub mod Schemas
+pub mod Statements
 pub mod Tests
 pub mod Whole

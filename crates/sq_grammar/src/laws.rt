@@ -1,9 +1,12 @@
 //! What holds of the grammar and of its parsers.
 ghost use Rattle.std.specs.Prelude.{◌≡◌, ◌≤◌, ◌↔◌, ℕ, suc, List, Some};
 ghost use Rattle.sq_syntax.specs.declared.query.Query.{Query};
+ghost use Rattle.sq_syntax.specs.declared.statement.Statement.{Statement};
 ghost use Rattle.sq_syntax.specs.declared.token.Token.{Token};
 ghost use Rattle.sq_syntax.specs.Grammar.{nesting_depth, IsExpression, IsQuery};
+ghost use Rattle.sq_syntax.specs.Statements.{IsStatement};
 ghost use Rattle.sq_grammar.specs.Levels.{Expr};
+ghost use Rattle.sq_grammar.specs.Statements.{statements};
 ghost use Rattle.sq_grammar.specs.Whole.{expressions, queries, whole};
 
 /// Tokens spell one expression at most.
@@ -22,4 +25,15 @@ pub fn one_query()
 pub fn read_exactly()
     ensures as_expression { (depth : ℕ) → (tokens : List Token) → (x : Expr) → nesting_depth tokens ≤ depth → (whole (expressions (suc depth)) tokens ≡ Some x) ↔ IsExpression tokens x }
     ensures as_query { (depth : ℕ) → (tokens : List Token) → (x : Query) → nesting_depth tokens ≤ depth → (whole (queries (suc depth)) tokens ≡ Some x) ↔ IsQuery tokens x }
+{}
+
+/// Tokens spell one statement at most.
+#[tactic(auto, using(crate::proofs::OneStatement::one_statement))]
+pub fn one_statement()
+    ensures { (tokens : List Token) → (x : Statement) → (y : Statement) → IsStatement tokens x → IsStatement tokens y → x ≡ y }
+{}
+
+/// What is read of all tokens as a statement, to a depth above theirs, is exactly what they spell.
+pub fn read_statements_exactly()
+    ensures { (depth : ℕ) → (tokens : List Token) → (x : Statement) → nesting_depth tokens ≤ depth → (whole (statements (suc depth)) tokens ≡ Some x) ↔ IsStatement tokens x }
 {}

@@ -8,3 +8,5 @@ pub mod WeightQueries
 pub mod WeightTrees
 pub mod Weights
 mod Worked
+mod WorkedSchemas
+mod WorkedStatements

@@ -7,5 +7,8 @@ pub mod Items
 pub mod Parts
 pub mod Pieces
 pub mod QueryPieces
+pub mod Runs
+pub mod Schemas
+pub mod Statements
 pub mod Symbols
 pub mod Tokens

@@ -1,8 +1,9 @@
 //! Tokens of SQL text, the classes of its bytes, and the definition of a file's token list. The
-//! trees of expressions and queries, and how they are spelled.
+//! trees of expressions, queries, changes of data and schema statements, and how they are spelled.
 #![tactic(auto)]
 
 mod class;
+mod ddl;
 mod expr;
 mod item;
 mod measure;
@@ -10,22 +11,112 @@ mod name;
 mod part;
 mod part_query;
 mod query;
+mod statement;
 mod symbol;
 mod token;
 
-pub use class::{ByteClass, class_of};
-pub use expr::{
-    Arguments, Arm, Collation, Comparison, Constant, Conversion, Direction, Expression, Index,
-    Joint, Link, Matching, Moment, Node, Nulls, Operator, Parameter, ParameterName, Pool, Purpose,
-    Quantifier, Sign, Sort, Test,
-};
-pub use item::{ItemKind, Stop};
-pub use measure::{height, query_height};
-pub use name::{ColumnName, Identifier, QualifiedName, TimeZone, TypeName, TypeWord};
-pub use query::{
-    Alias, Distinctness, Factor, From, Join, JoinKind, Label, Limit, Lock, Matched, Materialized,
-    Offset, Operands, Output, Quantity, Query, RowWord, Select, SetLink, SetOperation, Source,
-    Strength, Waiting, With,
-};
-pub use symbol::{Lexeme, Reading, Symbol};
-pub use token::{Gap, Token, TokenKind};
+pub use class::ByteClass;
+pub use class::class_of;
+pub use ddl::AlterTable;
+pub use ddl::AlterType;
+pub use ddl::Behavior;
+pub use ddl::Column;
+pub use ddl::Constraint;
+pub use ddl::ConstraintForm;
+pub use ddl::CreateDomain;
+pub use ddl::CreateSchema;
+pub use ddl::CreateTable;
+pub use ddl::CreateType;
+pub use ddl::Ddl;
+pub use ddl::DropNamed;
+pub use ddl::DropSchema;
+pub use ddl::Dropped;
+pub use ddl::Element;
+pub use ddl::Generation;
+pub use ddl::Neighbour;
+pub use ddl::Reaction;
+pub use ddl::Reference;
+pub use ddl::ReferenceAction;
+pub use ddl::ReferenceEvent;
+pub use ddl::SetType;
+pub use ddl::TableAction;
+pub use ddl::TableChange;
+pub use ddl::TableConstraint;
+pub use ddl::TableConstraintForm;
+pub use ddl::Tail;
+pub use ddl::TypeChange;
+pub use expr::Arguments;
+pub use expr::Arm;
+pub use expr::Collation;
+pub use expr::Comparison;
+pub use expr::Constant;
+pub use expr::Conversion;
+pub use expr::Direction;
+pub use expr::Expression;
+pub use expr::Index;
+pub use expr::Joint;
+pub use expr::Link;
+pub use expr::Matching;
+pub use expr::Moment;
+pub use expr::Node;
+pub use expr::Nulls;
+pub use expr::Operator;
+pub use expr::Parameter;
+pub use expr::ParameterName;
+pub use expr::Pool;
+pub use expr::Purpose;
+pub use expr::Quantifier;
+pub use expr::Sign;
+pub use expr::Sort;
+pub use expr::Test;
+pub use item::ItemKind;
+pub use item::Stop;
+pub use measure::height;
+pub use measure::query_height;
+pub use name::ColumnName;
+pub use name::Identifier;
+pub use name::QualifiedName;
+pub use name::TimeZone;
+pub use name::TypeName;
+pub use name::TypeWord;
+pub use query::Alias;
+pub use query::Distinctness;
+pub use query::Factor;
+pub use query::From;
+pub use query::Join;
+pub use query::JoinKind;
+pub use query::Label;
+pub use query::Limit;
+pub use query::Lock;
+pub use query::Matched;
+pub use query::Materialized;
+pub use query::Offset;
+pub use query::Operands;
+pub use query::Output;
+pub use query::Quantity;
+pub use query::Query;
+pub use query::RowWord;
+pub use query::Select;
+pub use query::SetLink;
+pub use query::SetOperation;
+pub use query::Source;
+pub use query::Strength;
+pub use query::Waiting;
+pub use query::With;
+pub use statement::Assignment;
+pub use statement::Conflict;
+pub use statement::ConflictTarget;
+pub use statement::Delete;
+pub use statement::Given;
+pub use statement::Insert;
+pub use statement::InsertSource;
+pub use statement::Statement;
+pub use statement::TableAlias;
+pub use statement::Update;
+pub use statement::ValuesRow;
+pub use symbol::Lexeme;
+pub use symbol::Reading;
+pub use symbol::Symbol;
+pub use token::Gap;
+pub use token::Token;
+pub use token::TokenKind;

@@ -59,6 +59,10 @@ word_says letters n (y ∷ rest) next u h = elim (chosen {b = is_word letters y.
   | inr (b, e) ↦ absurd (cc)
 ]
 
+pub word_says_of : (letters : List ℕ) (now next : Stream) (u : Unit {0}) → expect_word letters now ≡ Some (u, next) → Says (reading.Word letters) now next
+unfolding expect_word
+word_says_of letters now next u h = word_says letters now.at now.tokens next u h
+
 pub word_expected : {letters : List ℕ} {now next : Stream} {u : Unit {0}} → expect_word letters now ≡ Some (u, next) → Took (key_word letters ∷ []) now next
 unfolding expect_word
 word_expected {letters} {now} {next} {u} h = said (reading.Word letters) now next (word_says letters now.at now.tokens next u h)

@@ -39,7 +39,7 @@ field_spelled (reading.Symbol y) x b h proper = ap word_reading (sym (same_some 
 field_spelled (reading.Word word) x b h proper = ap word_reading (sym (same_some h)) ∙ proper
 field_spelled _ x b h proper = absurd (cc)
 
-field_took : Spells (λ x. Piece.need (g.is_field (word_reading x)) ∷ say (word_reading x) ∷ []) a_field
+pub field_took : Spells (λ x. Piece.need (g.is_field (word_reading x)) ∷ say (word_reading x) ∷ []) a_field
 unfolding a_field
 field_took now next x h =
     let r = reads h in

@@ -1,6 +1,5 @@
 -- Schema statements are read.
 use Rattle.std.specs.Prelude.{ℕ, suc, ◌-◌, Bool, true, false, ◌&&◌, ◌||◌, not, if◌then◌else◌, codes, List, [], ◌∷◌, map, Option, Some, None}
-use Rattle.sq_base.specs.declared.place.Place.{Place}
 use Rattle.sq_syntax.specs.declared.symbol.Symbol.TheVariants as s
 use Rattle.sq_syntax.specs.declared.symbol.Reading.{Reading}
 use Rattle.sq_syntax.specs.declared.symbol.Reading.TheVariants as reading
@@ -32,12 +31,10 @@ use Rattle.sq_syntax.specs.declared.ddl.Generation.TheVariants as generation_kin
 use Rattle.sq_syntax.specs.declared.ddl.Neighbour.{Neighbour}
 use Rattle.sq_syntax.specs.declared.ddl.Neighbour.TheVariants as neighbour_kind
 use Rattle.sq_syntax.specs.declared.ddl.Reaction.{Reaction}
-use Rattle.sq_syntax.specs.declared.ddl.Reference.{Reference}
 use Rattle.sq_syntax.specs.declared.ddl.ReferenceAction.{ReferenceAction}
 use Rattle.sq_syntax.specs.declared.ddl.ReferenceAction.TheVariants as reference_action
 use Rattle.sq_syntax.specs.declared.ddl.ReferenceEvent.{ReferenceEvent}
 use Rattle.sq_syntax.specs.declared.ddl.ReferenceEvent.TheVariants as event_kind
-use Rattle.sq_syntax.specs.declared.ddl.SetType.{SetType}
 use Rattle.sq_syntax.specs.declared.ddl.TableAction.{TableAction}
 use Rattle.sq_syntax.specs.declared.ddl.TableAction.TheVariants as table_action
 use Rattle.sq_syntax.specs.declared.ddl.TableChange.{TableChange}
@@ -53,7 +50,7 @@ use Rattle.sq_syntax.specs.Facts.{Stream}
 use Rattle.sq_syntax.specs.Pieces.{is_empty}
 use Rattle.sq_syntax.specs.Runs.{Bracket, behind, no_stop}
 use Rattle.sq_syntax.specs.Schemas.{is_comma, ends_default, ends_partition, begins_action, is as is_letters}
-use Rattle.sq_grammar.specs.Reading.{Outcome, Parser, and_then, ◌>>=◌, ◌>>◌, pure, fail, choose, begins, sees, expect, optional, token, here, many}
+use Rattle.sq_grammar.specs.Reading.{Outcome, Parser, ◌>>=◌, ◌>>◌, pure, fail, choose, begins, sees, expect, optional, here, many}
 use Rattle.sq_grammar.specs.Ahead.{Lexemes}
 use Rattle.sq_grammar.specs.Names.{name, qualified_name, type}
 use Rattle.sq_grammar.specs.Queries.{in_brackets, bracketed_names}
@@ -69,6 +66,11 @@ optional_word letters = choose (sees_word letters) (expect_word letters >> pure 
 abbrev pub begins_letters : List ℕ → List ℕ → Lexemes → Bool
 begins_letters first second (x ∷ y ∷ rest) = is_letters first x.reading && is_letters second y.reading
 begins_letters first second _ = false
+
+-- the first token is a word or a sign of these letters
+abbrev pub begins_sign : List ℕ → Lexemes → Bool
+begins_sign letters [] = false
+begins_sign letters (x ∷ rest) = is_letters letters x.reading
 
 abbrev pub sees_both : List ℕ → List ℕ → Stream → Bool
 sees_both first second now = begins_letters first second now.tokens
@@ -537,7 +539,7 @@ alter_table = do
   only_if ← if_exists
   only ← optional_word (codes "only")
   x ← qualified_name
-  star ← optional s.Times
+  star ← choose (λ now. begins_sign (codes "*") now.tokens) (expect s.Times >> pure true) (pure false)
   change ← change_of_table
   pure (record { if_exists = only_if; has_only = only; name = x; has_star = star; change = change })
 
@@ -595,7 +597,7 @@ change_of_type = choose (sees_both (codes "add") (codes "value")) add_value
     (choose (sees_both (codes "rename") (codes "value")) rename_value
     (choose (sees_both (codes "rename") (codes "to")) rename_type
     (choose (sees_both (codes "set") (codes "schema")) set_type_schema
-    (choose (sees s.Dot) fail other_type_change))))
+    (choose (λ now. begins_sign (codes ".") now.tokens) fail other_type_change))))
 
 unfoldable pub alter_type : Parser AlterType
 alter_type = do

@@ -1,11 +1,14 @@
 //! What holds of the grammar and of its parsers.
 ghost use Rattle.std.specs.Prelude.{◌≡◌, ◌≤◌, ◌↔◌, ℕ, suc, List, Some};
+ghost use Rattle.sq_syntax.specs.declared.ddl.Ddl.{Ddl};
 ghost use Rattle.sq_syntax.specs.declared.query.Query.{Query};
 ghost use Rattle.sq_syntax.specs.declared.statement.Statement.{Statement};
 ghost use Rattle.sq_syntax.specs.declared.token.Token.{Token};
 ghost use Rattle.sq_syntax.specs.Grammar.{nesting_depth, IsExpression, IsQuery};
+ghost use Rattle.sq_syntax.specs.Schemas.{IsDdl};
 ghost use Rattle.sq_syntax.specs.Statements.{IsStatement};
 ghost use Rattle.sq_grammar.specs.Levels.{Expr};
+ghost use Rattle.sq_grammar.specs.Schemas.{ddl};
 ghost use Rattle.sq_grammar.specs.Statements.{statements};
 ghost use Rattle.sq_grammar.specs.Whole.{expressions, queries, whole};
 
@@ -36,4 +39,9 @@ pub fn one_statement()
 /// What is read of all tokens as a statement, to a depth above theirs, is exactly what they spell.
 pub fn read_statements_exactly()
     ensures { (depth : ℕ) → (tokens : List Token) → (x : Statement) → nesting_depth tokens ≤ depth → (whole (statements (suc depth)) tokens ≡ Some x) ↔ IsStatement tokens x }
+{}
+
+/// What is read of all tokens as a schema statement is well levelled, and they spell it.
+pub fn read_ddl_is_spelled()
+    ensures { (tokens : List Token) → (x : Ddl) → whole ddl tokens ≡ Some x → IsDdl tokens x }
 {}

@@ -21,8 +21,6 @@ mod sink;
 mod still_out;
 mod still_sink;
 mod still_tree;
-#[cfg(test)]
-mod tests;
 mod tree;
 mod types;
 

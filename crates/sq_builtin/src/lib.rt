@@ -10,8 +10,6 @@ mod output;
 mod parts;
 mod row;
 mod table;
-#[cfg(test)]
-mod tests;
 
 pub use look_up::{known, rows};
 pub use row::{Kind, Pattern, Row, Shape};

@@ -1,2 +1,9 @@
+pub mod Actions
+pub mod Answers
 pub mod Catalogue
+pub mod Columns
 pub mod Contents
+pub mod Dropping
+pub mod Keys
+pub mod Schemas
+pub mod UserTypes

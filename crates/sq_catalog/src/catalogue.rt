@@ -1,18 +1,24 @@
-ghost use Rattle.std.specs.Prelude.{◌≡◌, ◌<◌, ◌^◌, [], IfOk, IfSome, MatchOption, None, Some, length, slice_get};
-ghost use Rattle.std.specs.Option.{option_copied};
-ghost use Rattle.sq_catalog.specs.Catalogue.{empty, is_named, table_named, place_of_table, placed_table, place_of_column, placed_column, Steps};
+//! The catalogue and its look-ups.
 
-use crate::{Change, ChangeFault, Column, DomainType, EnumType, Table};
-use sq_base::{List, Name};
+ghost use Rattle.std.specs.Prelude.{◌≡◌, ◌<◌, ◌^◌, ◌-◌, IfOk, IfSome, MatchOption, None, Some, length, slice_get};
+ghost use Rattle.std.specs.Option.{option_copied};
+ghost use Rattle.sq_catalog.specs.Schemas.{has_schema};
+ghost use Rattle.sq_catalog.specs.Catalogue.{empty, is_named, table_named, place_of_table, placed_table, Steps};
+
+use crate::{Change, ChangeFault, DomainType, EnumType, Table};
+use sq_base::Name;
 use std::alloc::{AllocError, Global};
 use std::marker::Model;
 
 /// The schemas' contents, as the changes so far have made them.
 #[derive(Debug, Drop)]
 pub struct Catalogue {
-    tables: List<Table>,
-    enums: List<EnumType>,
-    domains: List<DomainType>,
+    pub(crate) alloc: Global,
+    pub(crate) schemas: Vec<Name>,
+    pub(crate) tables: Vec<Table>,
+    pub(crate) enums: Vec<EnumType>,
+    pub(crate) domains: Vec<DomainType>,
+    pub(crate) given: u32,
 }
 
 impl Model for Catalogue {
@@ -20,7 +26,7 @@ impl Model for Catalogue {
 
     ghost Value = { Contents };
 
-    ghost view = { λ c. record { tables = c.tables; enums = c.enums; domains = c.domains } };
+    ghost view = { λ c. record { schemas = c.schemas.items; tables = c.tables.items; enums = c.enums.items; domains = c.domains.items; given = c.given } };
 }
 
 // Whether a table has this schema and this name.
@@ -31,40 +37,81 @@ fn is_named(table: &Table, schema: &str, name: &str) -> bool
 }
 
 impl Catalogue {
-    /// A catalogue without tables.
+    /// A catalogue with the schema `public` and nothing in it.
     pub fn new(alloc: Global) -> Result<Catalogue, AllocError>
         ensures { IfOk result (λ catalogue. catalogue ≡ empty) }
     {
+        let mut schemas = Vec::new(alloc);
+        schemas.push(Name::new(alloc, "public")?)?;
         Ok(Catalogue {
-            tables: List::new(alloc),
-            enums: List::new(alloc),
-            domains: List::new(alloc),
+            alloc,
+            schemas,
+            tables: Vec::new(alloc),
+            enums: Vec::new(alloc),
+            domains: Vec::new(alloc),
+            given: 0,
         })
+    }
+
+    /// Whether there is a schema of this name.
+    pub fn has_schema(&self, schema: &str) -> bool
+        ensures { result ≡ has_schema self.now schema.now }
+    {
+        self.schemas
+            .as_slice()
+            .iter()
+            .any(|name| name.as_str() == schema)
     }
 
     /// Makes a change, or refuses it and leaves the catalogue as it was.
     pub fn apply(&mut self, change: Change) -> Result<(), ChangeFault>
-        requires { length self.old.tables < 2 ^ 32 }
+        requires { self.old.given < 2 ^ 32 - 1 }
         ensures { Steps self.old change self.new result }
     {
-        let Change::CreateTable {
-            schema,
-            name,
-            columns,
-        } = change;
-        if self.table(schema.as_str(), name.as_str()).is_some() {
-            return Err(ChangeFault::Exists(name));
-        }
-        let table = Table {
-            id: self.tables.len() as u32,
-            schema,
-            name,
-            columns,
-            key: None,
-        };
-        match self.tables.push(table) {
-            Ok(()) => Ok(()),
-            Err(_) => Err(ChangeFault::Memory),
+        match change {
+            Change::CreateSchema {
+                name,
+                if_not_exists,
+            } => self.create_schema(name, if_not_exists),
+            Change::CreateTable {
+                schema,
+                name,
+                if_not_exists,
+                columns,
+                keys,
+            } => self.create_table(schema, name, if_not_exists, columns, keys),
+            Change::DropTable { table } => self.drop_table(table),
+            Change::AlterTable { table, action } => self.alter_table(table, action),
+            Change::RenameTable { table, to } => self.rename_table(table, to),
+            Change::SetTableSchema { table, to } => self.move_table(table, to),
+            Change::CreateEnum {
+                schema,
+                name,
+                labels,
+            } => self.create_enum(schema, name, labels),
+            Change::CreateDomain { schema, name, base } => self.create_domain(schema, name, base),
+            Change::AddValue {
+                schema,
+                name,
+                label,
+                if_not_exists,
+                beside,
+            } => self.add_value(schema, name, label, if_not_exists, beside),
+            Change::RenameValue {
+                schema,
+                name,
+                from,
+                to,
+            } => self.rename_value(schema, name, from, to),
+            Change::RenameType { schema, name, to } => self.rename_type(schema, name, to),
+            Change::SetTypeSchema { schema, name, to } => self.move_type(schema, name, to),
+            Change::DropType { of, cascade } => self.drop_type(of, cascade),
+            Change::DropDomain { of, cascade } => self.drop_domain(of, cascade),
+            Change::DropSchema {
+                name,
+                if_exists,
+                cascade,
+            } => self.drop_schema(name, if_exists, cascade),
         }
     }
 
@@ -79,8 +126,9 @@ impl Catalogue {
     }
 
     // The place of the table of this name in this schema.
-    fn place_of(&self, schema: &str, name: &str) -> Option<usize>
-        ensures { result ≡ place_of_table self.now schema.now name.now }
+    pub(crate) fn place_of(&self, schema: &str, name: &str) -> Option<usize>
+        ensures place { result ≡ place_of_table self.now schema.now name.now }
+        ensures within { IfSome result (λ at. at < length self.now.tables) }
     {
         self.tables
             .as_slice()
@@ -110,25 +158,4 @@ impl Catalogue {
     {
         self.tables.get(index)
     }
-}
-
-/// The place of a table's column of this name, from 0.
-pub fn column(table: &Table, name: &str) -> Option<usize>
-    ensures place { result ≡ place_of_column table.now name.now }
-    ensures within { IfSome result (λ at. at < length table.now.columns) }
-{
-    table
-        .columns
-        .as_slice()
-        .iter()
-        .position(|column| column.name.as_str() == name)
-}
-
-/// The column of this name, and its place in the table, from 0.
-pub fn placed_column<'a>(table: &'a Table, name: &str) -> Option<(usize, &'a Column)>
-    ensures { MatchOption result (placed_column table.now name.now ≡ None) (λ r. placed_column table.now name.now ≡ Some (r.0, r.1.now)) }
-{
-    let place = column(table, name)?;
-    let found = table.columns.get(place)?;
-    Some((place, found))
 }

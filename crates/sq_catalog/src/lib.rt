@@ -1,10 +1,18 @@
 //! The catalogue that the migrations of a project give: its tables with their columns.
 #![tactic(auto)]
 
+mod action;
 mod catalogue;
 mod change;
+mod columns;
+mod dropping;
+mod keys;
+mod labels;
 mod table;
+mod tables;
+mod user_types;
 
-pub use catalogue::{Catalogue, column, placed_column};
-pub use change::{Change, ChangeFault};
+pub use catalogue::Catalogue;
+pub use change::{Action, Beside, Change, ChangeFault, Keys, NewKey, Target};
+pub use columns::{column, placed_column};
 pub use table::{Column, DomainType, EnumType, Key, Table};

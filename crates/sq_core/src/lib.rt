@@ -9,8 +9,6 @@ mod naming;
 mod node;
 mod showing;
 mod signature;
-#[cfg(test)]
-mod tests;
 
 pub use declaration::{ModelDecl, QueryFile, QuerySig};
 pub use form::{go_form, is_weak_in_go};

@@ -12,6 +12,3 @@ mod row;
 
 pub use clash::go_clash;
 pub use files::go_files;
-
-#[cfg(test)]
-mod tests;

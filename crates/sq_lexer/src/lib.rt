@@ -7,8 +7,6 @@ mod machine;
 mod place;
 mod reading;
 mod signs;
-#[cfg(test)]
-mod tests;
 
 pub use law::{one_token_list, printed_tokens_are_read_again, token_list_is_meant};
 pub use reading::tokens;

@@ -10,8 +10,6 @@ mod mask;
 mod picking;
 mod slot;
 mod test;
-#[cfg(test)]
-mod tests;
 
 pub use agreement::common;
 pub use answer::{Common, Picked};

@@ -10,8 +10,6 @@ mod laws;
 mod parts;
 mod read;
 mod settle;
-#[cfg(test)]
-mod tests;
 
 pub use laws::{reads_as_one, reads_as_written};
 pub use parts::Class;

@@ -1,6 +1,6 @@
 -- The types of the first tables, and of what is judged over them.
 use Rattle.std.proofs.Common.{◌≡◌, ◌⊎◌, ℕ, zero, suc, Bool, true, false, cond, List, [], ◌∷◌, ◌++◌, Option, None, Some, Result, Ok, Err, refl, sym, ap, subst, inl, inr, slice_get}
-use Rattle.std.specs.Prelude.{codes}
+use Rattle.std.specs.Prelude.{codes, nat_lt, length}
 use Rattle.std.specs.Option.{option_map}
 use Rattle.std.specs.List.{AllByRecursion, AllZip}
 use Rattle.std.proofs.lemmas.Bool.{cases_Bool}
@@ -22,7 +22,7 @@ use Rattle.sq_syntax.specs.declared.token.TokenKind.TheVariants.{Word, Punct}
 use Rattle.sq_run.specs.declared.statements.CreateTable.{CreateTable}
 use Rattle.sq_run.specs.declared.statements.Named.{Named}
 use Rattle.sq_run.specs.Judged.{judged_names, after_these, node_of, output_of, unknown}
-use Rattle.sq_run.specs.Statements.{Part, is, after, name_at, integer, text, type_at, not_null_at, column_at, next, items_from, items_at, with_item, ended, has_twin, distinct, create_table}
+use Rattle.sq_run.specs.Statements.{Part, is, after, name_at, integer, text, type_at, not_null_at, column_at, next, items_from, items_at, with_item, ended, has_twin, distinct, limited, create_table}
 use Rattle.sq_run.proofs.OkSteps.{bind_some}
 
 -- integer or text
@@ -84,6 +84,13 @@ distinct_first columns cs all found = elim (cases_Bool (has_twin columns)) [
       subst IsFirstTable same (record { types = all; apart = none })
 ]
 
+limited_first : (columns cs : List TableColumn) → IsFirstTable columns → limited columns ≡ Some cs → IsFirstTable cs
+unfolding limited
+limited_first columns cs first found = elim (cases_Bool (nat_lt 1600 (length columns))) [
+  | inl many ↦ absurd (cc (rw many at found))
+  | inr few ↦ subst IsFirstTable (same_Some _ _ (rw few at found)) first
+]
+
 pub table_first : (ts : List Token) (table : CreateTable) → create_table ts ≡ Some table → IsFirstTable table.columns
 unfolding create_table
 table_first ts table found =
@@ -94,8 +101,9 @@ table_first ts table found =
     let items = bind_some (items_at column_at Punct (codes ")") c.0) _ table c.2 in
     let end = bind_some (ended items.0.1) _ table items.2 in
     let cs = bind_some (distinct items.0.0) _ table end.2 in
-    subst (λ (t : CreateTable). IsFirstTable t.columns) (same_Some _ _ cs.2)
-    (distinct_first items.0.0 cs.0 (items_first Punct (codes ")") _ c.0 items.0 items.1) cs.1)
+    let few = bind_some (limited cs.0) _ table cs.2 in
+    subst (λ (t : CreateTable). IsFirstTable t.columns) (same_Some _ _ few.2)
+    (limited_first cs.0 few.0 (distinct_first items.0.0 cs.0 (items_first Punct (codes ")") _ c.0 items.0 items.1) cs.1) few.1)
 
 -- what holds of all holds of the one at a place
 pub at_place : {A : Type 0} (P : A → Type 0) (xs : List A) (i : ℕ) (x : A) → AllByRecursion P xs → slice_get xs i ≡ Some x → P x

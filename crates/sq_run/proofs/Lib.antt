@@ -24,4 +24,5 @@ pub mod Simple
 pub mod Sizes
 pub mod Stated
 pub mod Steps
+pub mod TableMade
 pub mod Together

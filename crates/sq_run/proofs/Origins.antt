@@ -27,7 +27,7 @@ use Rattle.sq_run.specs.Judged.{judged, judged_names, judged_select, model_used,
 use Rattle.sq_run.specs.declared.read.TheConstants.{LIMIT}
 use Rattle.sq_run.specs.declared.sources.SourceFile.{SourceFile}
 use Rattle.sq_run.specs.Asked.{each_judged}
-use Rattle.sq_run.specs.Project.{catalogue_with, catalogue_of, table_of, table_by, tables_by, tables_in, without_notes}
+use Rattle.sq_run.specs.Project.{catalogue_of, table_of, table_by, tables_by, tables_in, without_notes}
 use Rattle.sq_run.specs.Names.{is_identifier}
 use Rattle.sq_run.specs.Query.{behind, before_end, query_name, noted_name, annotation, annotated, query_of}
 use Rattle.sq_run.specs.Statements.{one_statement, create_table, select}
@@ -35,6 +35,7 @@ use Rattle.sq_run.proofs.FirstTypes.{placed_there, same_ok}
 use Rattle.sq_run.proofs.OkSteps.{bind_some, no_items, EachOk, each_ok, all_both}
 use Rattle.sq_run.proofs.Sizes.{list_size, notes_size, table_size, query_size, statement_size}
 use Rattle.sq_run.proofs.Plans.{FromSource, catalogue_ok}
+use Rattle.sq_run.proofs.TableMade.{only_with}
 
 -- the tokens of a source that was read
 pub record IsRead (file : SourceFile) : Type 0 where
@@ -84,7 +85,7 @@ all_made (file ∷ schema) tables read each =
 pub record FromSchema (contents : Contents) : Type 0 where
   pub table : CreateTable
   pub made : IsMade table
-  pub holds : contents ≡ catalogue_with table
+  pub holds : contents ≡ only_with table
 
 pub schema_from : (path : List ℕ) (schema : List SourceFile) (contents : Contents) → AllByRecursion IsRead schema → catalogue_of path schema ≡ Ok contents → FromSchema contents
 schema_from path schema contents read is =

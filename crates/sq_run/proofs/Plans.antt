@@ -39,9 +39,10 @@ use Rattle.sq_run.specs.Outs.{all_entries, same_out, other_writer}
 use Rattle.sq_run.specs.Shape.{bad_key}
 use Rattle.sq_run.specs.Paths.{folder_of}
 use Rattle.sq_run.specs.Judged.{judged}
-use Rattle.sq_run.specs.Project.{not_yet, checked, whole_file, wanted, wanted_file, unless_more, counted, with_tokens, source, sources, output_by, output_of_entry, configured_by, configured, configuration_at, catalogue_with, catalogue_from, catalogue_of, models_of, file_with, file_by, file_of, declared_in, output_files, written, block_files, all_files, requested}
+use Rattle.sq_run.specs.Project.{not_yet, checked, whole_file, wanted, wanted_file, unless_more, counted, with_tokens, source, sources, output_by, output_of_entry, configured_by, configured, configuration_at, catalogue_from, catalogue_of, models_of, file_with, file_by, file_of, declared_in, output_files, written, block_files, all_files, requested}
 use Rattle.sq_run.specs.Query.{query_of}
 use Rattle.sq_run.proofs.OkSteps.{and_then_ok, Gathered, gathered_ok, EachOk, each_ok}
+use Rattle.sq_run.proofs.TableMade.{only_table, only_with}
 
 same_answer : {A : Type 0} (r : Result A (List Finding)) (x y : A) → r ≡ Ok x → r ≡ Ok y → x ≡ y
 same_answer r x y one other = cc (one, other)
@@ -133,10 +134,10 @@ entries_ok path (entry ∷ entries) outputs each =
     subst (AllZip FromEntry (entry ∷ entries)) (sym all) (first.2, entries_ok path entries each.1 each.4)
 
 -- the only table of a schema
-pub catalogue_ok : (path : List ℕ) (tables : Result (List CreateTable) (List Finding)) (contents : Contents) → catalogue_from path tables ≡ Ok contents → (table : CreateTable) × (tables ≡ Ok (table ∷ [])) × (contents ≡ catalogue_with table)
+pub catalogue_ok : (path : List ℕ) (tables : Result (List CreateTable) (List Finding)) (contents : Contents) → catalogue_from path tables ≡ Ok contents → (table : CreateTable) × (tables ≡ Ok (table ∷ [])) × (contents ≡ only_with table)
 catalogue_ok path (Err findings) contents is = absurd (cc is)
 catalogue_ok path (Ok []) contents is = absurd (cc is)
-catalogue_ok path (Ok (table ∷ [])) contents is = (table, refl, sym (same_answer _ _ _ refl is))
+catalogue_ok path (Ok (table ∷ [])) contents is = (table, refl, only_table path table contents is)
 catalogue_ok path (Ok (table ∷ next ∷ tables)) contents is = absurd (cc is)
 
 -- what a source of queries was judged to be

@@ -35,7 +35,7 @@ use Rattle.sq_run.specs.declared.sources.SourceFile.{SourceFile}
 use Rattle.sq_run.specs.declared.statements.CreateTable.{CreateTable}
 use Rattle.sq_run.specs.Headline.{ReturnsFit, RunsAsPrinted, SaysQuery}
 use Rattle.sq_run.specs.Judged.{judged, judged_names, output_of, model_used, are_all_columns, have_names}
-use Rattle.sq_run.specs.Project.{catalogue_with, models_of, model_of, file_name, declared}
+use Rattle.sq_run.specs.Project.{models_of, model_of, file_name, declared}
 use Rattle.sq_run.specs.Names.{is_identifier}
 use Rattle.sq_run.specs.Query.{query_of}
 use Rattle.sq_lexer.specs.Printed.{spelling, printed, AreSimple}
@@ -51,6 +51,7 @@ use Rattle.sq_run.proofs.Origins.{IsRead, IsMade, FromSchema, FromText, FromTabl
 use Rattle.sq_run.proofs.Plans.{FromQuery}
 use Rattle.sq_run.proofs.Readables.{columns_form, all_fields_form, fields_spelled, model_stands, own_stands, row_spelled, word_run}
 use Rattle.sq_run.proofs.Simple.{query_simple, query_unmarked}
+use Rattle.sq_run.proofs.TableMade.{only_with}
 
 -- what is known of every core and every layout
 pub record Laws : Type 0 where
@@ -168,7 +169,7 @@ readable_files models (file ∷ files) named apart each =
 
 module _ (laws : Laws) (made : CreateTable) (is_made : IsMade made) where
   abbrev contents : Contents
-  contents = catalogue_with made
+  contents = only_with made
 
   abbrev the_table : Table
   the_table = record { id = 0; schema = codes "public"; name = made.name; columns = made.columns; key = None }

@@ -1,6 +1,6 @@
 -- How many columns and names a text can have.
 use Rattle.std.proofs.Common.{◌≡◌, ◌≢◌, ◌≤◌, ℕ, zero, suc, ◌+◌, ◌-◌, Bool, true, false, cond, List, [], ◌∷◌, length, take, drop, Option, None, Some, Result, Ok, Err, refl, sym, ap, subst, inl, inr, arith}
-use Rattle.std.specs.Prelude.{codes}
+use Rattle.std.specs.Prelude.{codes, nat_lt}
 use Rattle.std.specs.Option.{option_map}
 use Rattle.std.specs.Str.{is_utf8}
 use Rattle.std.proofs.lemmas.Bool.{cases_Bool}
@@ -20,7 +20,7 @@ use Rattle.sq_lexer.specs.TokenList.{Reader, begun, read_past, read_unless, read
 use Rattle.sq_run.specs.declared.statements.CreateTable.{CreateTable}
 use Rattle.sq_run.specs.declared.statements.Named.{Named}
 use Rattle.sq_run.specs.declared.statements.Select.{Select}
-use Rattle.sq_run.specs.Statements.{Part, is, named, after, name_at, column_at, next, with_item, items_from, items_at, ended, distinct, has_twin, one_statement, create_table, select}
+use Rattle.sq_run.specs.Statements.{Part, is, named, after, name_at, column_at, next, with_item, items_from, items_at, ended, distinct, limited, has_twin, one_statement, create_table, select}
 use Rattle.sq_run.specs.Names.{name_text}
 use Rattle.sq_run.specs.Project.{is_no_note, without_notes}
 use Rattle.sq_run.proofs.OkSteps.{bind_some}
@@ -110,6 +110,13 @@ distinct_same columns cs found = elim (cases_Bool (has_twin columns)) [
   | inr none ↦ same_Some _ _ (rw none at found)
 ]
 
+limited_same : (columns cs : List TableColumn) → limited columns ≡ Some cs → columns ≡ cs
+unfolding limited
+limited_same columns cs found = elim (cases_Bool (nat_lt 1600 (length columns))) [
+  | inl many ↦ absurd (cc (rw many at found))
+  | inr few ↦ same_Some _ _ (rw few at found)
+]
+
 -- a table has no more columns than its statement tokens
 pub table_size : (ts : List Token) (table : CreateTable) → create_table ts ≡ Some table → length table.columns ≤ length ts
 unfolding create_table
@@ -122,8 +129,9 @@ table_size ts table found =
     let end = bind_some (ended items.0.1) _ table items.2 in
     let cs = bind_some (distinct items.0.0) _ table end.2 in
     let size = (items_size column_at Punct (codes ")") (length c.0) c.0 items.0 items.1).0 in
-    let is_columns = ap (λ (t : CreateTable). length t.columns) (same_Some _ _ cs.2) in
-    omega (arith, after_size Word (codes "create") ts a.0 a.1, after_size Word (codes "table") a.0 b.0 b.1, name_size b.0 name.0 name.1, after_size Punct (codes "(") name.0.1 c.0 c.1, size, ap length (distinct_same items.0.0 cs.0 cs.1), is_columns)
+    let few = bind_some (limited cs.0) _ table cs.2 in
+    let is_columns = ap (λ (t : CreateTable). length t.columns) (same_Some _ _ few.2) in
+    omega (arith, after_size Word (codes "create") ts a.0 a.1, after_size Word (codes "table") a.0 b.0 b.1, name_size b.0 name.0 name.1, after_size Punct (codes "(") name.0.1 c.0 c.1, size, ap length (distinct_same items.0.0 cs.0 cs.1), ap length (limited_same cs.0 few.0 few.1), is_columns)
 
 -- a query has a name or more, and no more of them than its statement tokens
 pub query_size : (ts : List Token) (query : Select) → select ts ≡ Some query → (length query.outputs ≤ length ts) × (query.outputs ≢ [])

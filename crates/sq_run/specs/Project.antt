@@ -6,8 +6,12 @@ use Rattle.sq_base.specs.Tree.{TreeState}
 use Rattle.sq_base.specs.declared.file.File.{File}
 use Rattle.sq_base.specs.declared.refusal.Refusal.{Refusal}
 use Rattle.sq_catalog.specs.Contents.{Contents}
-use Rattle.sq_catalog.specs.Catalogue.{empty, with_table}
+use Rattle.sq_catalog.specs.Catalogue.{public, empty, step}
 use Rattle.sq_catalog.specs.declared.table.Table.{Table}
+use Rattle.sq_catalog.specs.declared.change.Change.{Change}
+use Rattle.sq_catalog.specs.declared.change.Change.TheVariants.{CreateTable as MakesTable}
+use Rattle.sq_catalog.specs.declared.change.ChangeFault.{ChangeFault}
+use Rattle.sq_catalog.specs.declared.change.Keys.TheVariants.{Nothing}
 use Rattle.sq_core.specs.Identifiers.{package_name}
 use Rattle.sq_core.specs.Layout.{layout}
 use Rattle.sq_core.specs.Names.{clash}
@@ -122,9 +126,18 @@ configured path bytes = configured_by path (configuration_of (folder_of path) by
 
 -- THE SCHEMA: all its files together have one statement, so far
 
+-- the change that makes a table
+abbrev pub made_by : CreateTable → Change
+made_by table = MakesTable public table.name false table.columns Nothing
+
+-- what a change has made, or a form that isn't built yet
+abbrev pub changed : List ℕ → Result Contents ChangeFault → Result Contents (List Finding)
+changed path (Ok contents) = Ok contents
+changed path (Err fault) = Err (not_yet Configuration path ∷ [])
+
 -- the catalogue with this table alone
-abbrev pub catalogue_with : CreateTable → Contents
-catalogue_with table = with_table empty (codes "public") table.name table.columns
+abbrev pub catalogue_with : List ℕ → CreateTable → Result Contents (List Finding)
+catalogue_with path table = changed path (step empty (made_by table))
 
 -- whether a token isn't a comment that names a query: a schema has no use for these
 abbrev pub is_no_note : TokenKind → Bool
@@ -163,7 +176,7 @@ only (table ∷ second ∷ tables) = None
 
 -- the catalogue of the only table
 abbrev pub catalogue_with_only : List ℕ → Option CreateTable → Result Contents (List Finding)
-catalogue_with_only path (Some table) = Ok (catalogue_with table)
+catalogue_with_only path (Some table) = catalogue_with path table
 catalogue_with_only path None = Err (not_yet Configuration path ∷ [])
 
 -- the catalogue of these tables, where there is one, and else a form that isn't built yet

@@ -1,5 +1,5 @@
 -- The first statements that are read: a table of integer and text columns, and a query for columns of one table.
-use Rattle.std.specs.Prelude.{ℕ, suc, zero, ◌&&◌, ◌||◌, Bool, true, false, if◌then◌else◌, List, [], ◌∷◌, length, codes, Option, None, Some, ◌-◌, take, drop}
+use Rattle.std.specs.Prelude.{ℕ, suc, zero, nat_lt, ◌&&◌, ◌||◌, Bool, true, false, if◌then◌else◌, List, [], ◌∷◌, length, codes, Option, None, Some, ◌-◌, take, drop}
 use Rattle.std.specs.Option.{option_map}
 use Rattle.std.specs.List.{list_any}
 use Rattle.std.specs.Str.{bytes_eq}
@@ -114,6 +114,10 @@ has_twin (column ∷ columns) = has_name columns column.name || has_twin columns
 unfoldable pub distinct : List Column → Option (List Column)
 distinct columns = if has_twin columns then None else Some columns
 
+-- the columns, where a table can have so many (PostgreSQL manual, appendix K)
+unfoldable pub limited : List Column → Option (List Column)
+limited columns = if nat_lt 1600 (length columns) then None else Some columns
+
 -- the one statement of a file, which a semicolon ends, without it
 unfoldable pub one_statement : List Token → Option (List Token)
 one_statement tokens = option_map (λ end. take (length tokens - 1) tokens) (after Punct (codes ";") (drop (length tokens - 1) tokens))
@@ -128,6 +132,7 @@ create_table tokens = do
   columns ← items_at column_at Punct (codes ")") tokens
   end ← ended columns.1
   columns ← distinct columns.0
+  columns ← limited columns
   Some (record { name = name.0.name; columns = columns })
 
 -- SELECT name {, name} FROM name

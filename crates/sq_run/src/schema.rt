@@ -12,7 +12,7 @@ use crate::read::{Role, refuse};
 use crate::sources::SourceFile;
 use crate::statements::{CreateTable, NoForm, one_statement, read_create_table};
 use sq_base::{List, Name};
-use sq_catalog::{Catalogue, Change};
+use sq_catalog::{Catalogue, Change, ChangeFault, Keys};
 use sq_syntax::{Token, TokenKind};
 use std::alloc::{AllocError, Global};
 
@@ -86,8 +86,8 @@ fn tables_of(alloc: Global, schema: List<SourceFile>) -> Result<List<CreateTable
 }
 
 /// The catalogue with this table alone.
-fn catalogue_with(alloc: Global, table: CreateTable) -> Result<Catalogue, Halt>
-    ensures { Judges (Ok (Project.catalogue_with table)) result }
+fn catalogue_with(alloc: Global, configuration: &str, table: CreateTable) -> Result<Catalogue, Halt>
+    ensures { Judges (Project.catalogue_with configuration.now table) result }
 {
     let Ok(mut catalogue) = Catalogue::new(alloc) else {
         return Err(Halt::Memory);
@@ -99,10 +99,13 @@ fn catalogue_with(alloc: Global, table: CreateTable) -> Result<Catalogue, Halt>
     match catalogue.apply(Change::CreateTable {
         schema,
         name,
+        if_not_exists: false,
         columns,
+        keys: Keys::Nothing,
     }) {
         Ok(()) => Ok(catalogue),
-        Err(_) => Err(Halt::Memory),
+        Err(ChangeFault::Memory) => Err(Halt::Memory),
+        Err(_) => Err(refuse(alloc, Role::Configuration, configuration)),
     }
 }
 
@@ -127,7 +130,7 @@ fn catalogue_by(
     ensures { Judges (catalogue_by configuration.now tables) result }
 {
     match only(tables) {
-        Some(table) => catalogue_with(alloc, table),
+        Some(table) => catalogue_with(alloc, configuration, table),
         None => Err(refuse(alloc, Role::Configuration, configuration)),
     }
 }

@@ -1,6 +1,6 @@
 ghost use Rattle.std.specs.Prelude.{◌≡◌, ◌<◌, ◌≤◌, ◌++◌, [], ◌∷◌, true, false, length, codes, string_bytes, IfOk};
 ghost use Rattle.sq_run.specs.Statements;
-ghost use Rattle.sq_run.specs.Statements.{is, after, name_at, type_at, not_null_at, column_at, next, items_at, ended, has_twin, distinct, one_statement, create_table, select};
+ghost use Rattle.sq_run.specs.Statements.{is, after, name_at, type_at, not_null_at, column_at, next, items_at, ended, has_twin, distinct, limited, one_statement, create_table, select};
 ghost use Rattle.sq_syntax.specs.declared.token.TokenKind.TheVariants.{Word, Punct};
 ghost use Rattle.sq_run.specs.Read.{Gives};
 ghost use Rattle.sq_run.specs.declared.statements.NoForm.TheVariants.{Memory};
@@ -10,6 +10,9 @@ use sq_base::{List, Name, PgType, Place, Scalar};
 use sq_catalog::Column;
 use sq_syntax::{Token, TokenKind};
 use std::alloc::{AllocError, Global};
+
+/// The most columns that a table can have.
+const MOST_COLUMNS: usize = 1600;
 
 /// A name as it is looked up, and where it stands.
 #[derive(Debug, Drop)]
@@ -242,6 +245,18 @@ fn distinct(columns: List<Column>) -> Result<List<Column>, NoForm>
     }
 }
 
+/// The columns, where a table can have so many.
+#[tactic(auto, unfolding(crate::specs::Statements::limited))]
+fn limited(columns: List<Column>) -> Result<List<Column>, NoForm>
+    ensures { Gives (λ r. r) result (limited columns) }
+{
+    if MOST_COLUMNS < columns.len() {
+        Err(NoForm::Other)
+    } else {
+        Ok(columns)
+    }
+}
+
 /// The one statement of a file, without the semicolon that ends it.
 #[tactic(auto, unfolding(crate::specs::Statements::one_statement))]
 pub fn one_statement(tokens: &[Token]) -> Result<&[Token], NoForm>
@@ -263,7 +278,7 @@ pub fn read_create_table(alloc: Global, tokens: &[Token]) -> Result<CreateTable,
     let tokens = after(tokens, TokenKind::Punct, "(")?;
     let (columns, tokens) = columns_at(alloc, tokens)?;
     ended(tokens)?;
-    let columns = distinct(columns)?;
+    let columns = limited(distinct(columns)?)?;
     Ok(CreateTable {
         name: named.name,
         columns,

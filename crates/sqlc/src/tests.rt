@@ -1,5 +1,13 @@
+mod built_in;
 mod configurations;
+mod conversions;
+mod forms;
+mod go;
 mod paths;
+mod reading_back;
+mod resolution;
+mod tokens;
+mod types;
 mod words;
 
 use crate::disk::{DiskOut, DiskTree};

@@ -1,7 +1,8 @@
 //! The catalogue and its look-ups.
 
-ghost use Rattle.std.specs.Prelude.{◌≡◌, ◌<◌, ◌^◌, ◌-◌, IfOk, IfSome, MatchOption, None, Some, length, slice_get};
+ghost use Rattle.std.specs.Prelude.{◌≡◌, ◌<◌, ◌+◌, IfOk, IfSome, MatchOption, None, Ok, Some, length, slice_get};
 ghost use Rattle.std.specs.Option.{option_copied};
+ghost use Rattle.sq_catalog.specs.Answers.{Gives};
 ghost use Rattle.sq_catalog.specs.Schemas.{has_schema};
 ghost use Rattle.sq_catalog.specs.Catalogue.{empty, is_named, table_named, place_of_table, placed_table, Steps};
 
@@ -63,9 +64,18 @@ impl Catalogue {
             .any(|name| name.as_str() == schema)
     }
 
+    // How many ids are given with one more.
+    pub(crate) fn one_more_given(&self) -> Result<u32, ChangeFault>
+        ensures { Gives (Ok (self.now.given + 1)) result }
+    {
+        match self.given.checked_add(1) {
+            Some(given) => Ok(given),
+            None => Err(ChangeFault::Memory),
+        }
+    }
+
     /// Makes a change, or refuses it and leaves the catalogue as it was.
     pub fn apply(&mut self, change: Change) -> Result<(), ChangeFault>
-        requires { self.old.given < 2 ^ 32 - 1 }
         ensures { Steps self.old change self.new result }
     {
         match change {

@@ -193,7 +193,7 @@ pub enum ChangeFault {
     InPrimaryKey(Name),
     /// The table would have over 1,600 columns.
     TooManyColumns(Name),
-    /// Memory was wanting.
+    /// Memory was wanting, or no id is left.
     Memory,
 }
 

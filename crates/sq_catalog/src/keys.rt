@@ -2,6 +2,7 @@
 
 ghost use Rattle.std.specs.Prelude.{◌≡◌, ◌<◌, ◌==◌, IfOk, codes, map, nat_lt, length, [], Ok, Err};
 ghost use Rattle.std.specs.List.{list_any};
+ghost use Rattle.std.specs.Option.{option_copied};
 ghost use Rattle.sq_catalog.specs.Answers.{Answers, Gives, and_then};
 ghost use Rattle.sq_catalog.specs.Keys.{key_name, places_of, new_key, key_of, all_marked, with_key, with_key_of, limited, completed, in_key, moved, key_without, without_column};
 
@@ -9,6 +10,13 @@ use crate::columns::{column, mark_at, take_columns};
 use crate::{ChangeFault, Column, Key, Keys, NewKey, Table};
 use sq_base::{List, Name};
 use std::alloc::{AllocError, Global};
+
+/// The primary key of a table.
+pub fn primary_key(table: &Table) -> Option<&Key>
+    ensures { option_copied result ≡ table.now.key }
+{
+    table.key.as_ref()
+}
 
 // The most columns that a table can have.
 const MOST_COLUMNS: usize = 1600;

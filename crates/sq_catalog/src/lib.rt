@@ -15,4 +15,5 @@ mod user_types;
 pub use catalogue::Catalogue;
 pub use change::{Action, Beside, Change, ChangeFault, Keys, NewKey, Target};
 pub use columns::{column, placed_column};
+pub use keys::primary_key;
 pub use table::{Column, DomainType, EnumType, Key, Table};

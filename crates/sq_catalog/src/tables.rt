@@ -1,6 +1,6 @@
 //! The changes of schemas and tables.
 
-ghost use Rattle.std.specs.Prelude.{◌≡◌, ◌<◌, ◌^◌, ◌-◌, ◌∷◌, ◌++◌, [], Ok, Err, length};
+ghost use Rattle.std.specs.Prelude.{◌≡◌, ◌<◌, ◌∷◌, ◌++◌, [], Ok, Err, length};
 ghost use Rattle.std.specs.Option.{option_copied};
 ghost use Rattle.sq_catalog.specs.Answers.{Answers, Gives, and_then};
 ghost use Rattle.sq_catalog.specs.Columns.{change_at};
@@ -97,11 +97,11 @@ impl Catalogue {
 
     // Adds a table, which has the next id.
     fn add_table(&mut self, table: Table) -> Result<(), ChangeFault>
-        requires { self.old.given < 2 ^ 32 - 1 }
         ensures { Answers self.old (Ok (with_new self.old table)) self.new result }
     {
+        let given = self.one_more_given()?;
         self.tables.push(table)?;
-        self.given += 1;
+        self.given = given;
         Ok(())
     }
 
@@ -113,7 +113,6 @@ impl Catalogue {
         columns: List<Column>,
         keys: Keys,
     ) -> Result<(), ChangeFault>
-        requires { self.old.given < 2 ^ 32 - 1 }
         ensures { Answers self.old (table_made self.old schema name columns keys) self.new result }
     {
         let bare = Table {
@@ -136,7 +135,6 @@ impl Catalogue {
         columns: List<Column>,
         keys: Keys,
     ) -> Result<(), ChangeFault>
-        requires { self.old.given < 2 ^ 32 - 1 }
         ensures { Answers self.old (table_created self.old schema name if_not_exists columns keys) self.new result }
     {
         match self.place_of(schema.as_str(), name.as_str()) {

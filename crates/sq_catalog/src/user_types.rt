@@ -1,6 +1,6 @@
 //! The changes of enumerations and domains.
 
-ghost use Rattle.std.specs.Prelude.{◌≡◌, ◌<◌, ◌^◌, ◌-◌, IfSome, Ok, length, slice_get};
+ghost use Rattle.std.specs.Prelude.{◌≡◌, ◌<◌, IfSome, Ok, length, slice_get};
 ghost use Rattle.std.specs.Option.{option_copied};
 ghost use Rattle.sq_catalog.specs.Answers.{Answers, Gives};
 ghost use Rattle.sq_catalog.specs.UserTypes.{is_enum, is_domain, place_of_enum, enum_named, domain_named, type_named, enum_of, free_type, with_enum, enum_created, with_domain, domain_created, value_added, value_renamed, place_of_domain, known_type, enum_titled, domain_titled, enum_housed, domain_housed, domain_changed, type_changed, type_renamed, type_moved};
@@ -108,6 +108,13 @@ impl Catalogue {
         self.enums.get(index)
     }
 
+    /// The domain at this place in the order in which they were made.
+    pub fn domain_at(&self, index: usize) -> Option<&DomainType>
+        ensures { option_copied result ≡ slice_get self.now.domains index }
+    {
+        self.domains.get(index)
+    }
+
     // The place of the enumeration of this name in this schema.
     fn place_of_enum(&self, schema: &str, name: &str) -> Option<usize>
         ensures place { result ≡ place_of_enum self.now schema.now name.now }
@@ -132,16 +139,16 @@ impl Catalogue {
 
     // Adds an enumeration, which has the next id.
     fn add_enum(&mut self, schema: Name, name: Name, labels: List<Name>) -> Result<(), ChangeFault>
-        requires { self.old.given < 2 ^ 32 - 1 }
         ensures { Answers self.old (Ok (with_enum self.old schema name labels)) self.new result }
     {
+        let given = self.one_more_given()?;
         self.enums.push(EnumType {
             id: self.given,
             schema,
             name,
             labels,
         })?;
-        self.given += 1;
+        self.given = given;
         Ok(())
     }
 
@@ -152,7 +159,6 @@ impl Catalogue {
         name: Name,
         labels: List<Name>,
     ) -> Result<(), ChangeFault>
-        requires { self.old.given < 2 ^ 32 - 1 }
         ensures { Answers self.old (enum_created self.old schema name labels) self.new result }
     {
         self.check_type(schema.as_str(), name.as_str())?;
@@ -167,17 +173,17 @@ impl Catalogue {
         name: Name,
         base: PgType,
     ) -> Result<(), ChangeFault>
-        requires { self.old.given < 2 ^ 32 - 1 }
         ensures { Answers self.old (domain_created self.old schema name base) self.new result }
     {
         self.check_type(schema.as_str(), name.as_str())?;
+        let given = self.one_more_given()?;
         self.domains.push(DomainType {
             id: self.given,
             schema,
             name,
             base,
         })?;
-        self.given += 1;
+        self.given = given;
         Ok(())
     }
 

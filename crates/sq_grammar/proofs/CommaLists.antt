@@ -27,10 +27,10 @@ pub record Listed {A : Type 0} (pieces : A → List Piece) (xs : List A) (now ne
   pub took : Took (p.listed (map pieces xs)) now next
   pub some : not (p.is_empty xs) ≡ true
 
-abbrev comma_pieces : {A : Type 0} → (A → List Piece) → A → List Piece
+abbrev pub comma_pieces : {A : Type 0} → (A → List Piece) → A → List Piece
 comma_pieces pieces x = word s.Comma ∷ pieces x
 
-listed_pieces : {A : Type 0} (pieces : A → List Piece) (x : A) (xs : List A) → p.listed (map pieces (x ∷ xs)) ≡ pieces x ++ flat_map (comma_pieces pieces) xs
+pub listed_pieces : {A : Type 0} (pieces : A → List Piece) (x : A) (xs : List A) → p.listed (map pieces (x ∷ xs)) ≡ pieces x ++ flat_map (comma_pieces pieces) xs
 listed_pieces pieces x xs = ap (λ ps. pieces x ++ ps) (flat_map-map (λ (item : List Piece). word s.Comma ∷ item) pieces xs)
 
 module _ {A : Type 0} (k : ℕ) (item : Parser A) (pieces : A → List Piece) (stop : Stream → Bool) where

@@ -77,7 +77,7 @@ lacks k now sign h = by_tokens now.tokens h
     by_tokens [] e = refl
     by_tokens (x ∷ rest) e = lacks_reading k sign x.reading e
 
-and_false : (a b : Bool) → b ≡ false → a && b ≡ false
+pub and_false : (a b : Bool) → b ≡ false → a && b ≡ false
 and_false true b h = h
 and_false false b h = refl
 

@@ -35,7 +35,7 @@ not_stopped false b c h = refl
 not_stopped true false c h = refl
 not_stopped true true c h = absurd (cc)
 
-and_true : (a b : Bool) → a ≡ true → b ≡ true → a && b ≡ true
+pub and_true : (a b : Bool) → a ≡ true → b ≡ true → a && b ≡ true
 and_true a b h k = rw (h, k) refl
 
 -- what was put before a run

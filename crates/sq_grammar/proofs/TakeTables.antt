@@ -189,12 +189,8 @@ with_run_took make front start now next x same took h =
     given z.table_constraint_form one.more (subst (λ ps. Took ps start one.next) (sym (same one.value)) all)
 
 -- behind the word EXCLUDE a run begins with USING or a bracket
-second_letters : (tokens : Lexemes) (u : Stream) (r : Reading) (v : Stream) → (x : Lexeme) → tokens ≡ x ∷ u.tokens → Says r u v → begins_exclusion tokens ≡ true → z.is (codes "using") r || z.is (codes "(") r ≡ true
-second_letters tokens u r v x e says h = by_word (z.is (codes "exclude") x.reading) (z.is (codes "using") r) (z.is (codes "(") r) (sym (ap begins_exclusion (e ∙ ap (λ rest. x ∷ rest) says.first)) ∙ h)
-  where
-    by_word : (a b c : Bool) → (a && b) || (a && c) ≡ true → b || c ≡ true
-    by_word true b c g = g
-    by_word false b c g = absurd (cc)
+second_opens : (tokens : Lexemes) (u : Stream) (r : Reading) (v : Stream) → (x : Lexeme) → tokens ≡ x ∷ u.tokens → Says r u v → begins_exclusion tokens ≡ true → z.opens_exclusion r ≡ true
+second_opens tokens u r v x e says h = (both (z.is (codes "exclude") x.reading) (z.opens_exclusion r) (sym (ap begins_exclusion (e ∙ ap (λ rest. x ∷ rest) says.first)) ∙ h)).1
 
 exclude_took : Spells z.table_constraint_form exclusion
 exclude_took now next x h = elim (chosen {b = begins_exclusion now.tokens} h) [
@@ -211,7 +207,7 @@ exclude_took now next x h = elim (chosen {b = begins_exclusion now.tokens} h) [
   where
     run_begins : (xs : List Reading) (start u v : Stream) → Says (reading.Word (codes "exclude")) start u → begins_exclusion start.tokens ≡ true → not (p.is_empty xs) ≡ true → Along (marks_of (z.tokens xs)) u v → z.begins_exclusion xs ≡ true
     run_begins [] start u v says seen some along = absurd (cc)
-    run_begins (r ∷ xs) start u v says seen some along = second_letters start.tokens u r along.0 (record { reading = reading.Word (codes "exclude"); place = says.place }) says.first along.1 seen
+    run_begins (r ∷ xs) start u v says seen some along = second_opens start.tokens u r along.0 (record { reading = reading.Word (codes "exclude"); place = says.place }) says.first along.1 seen
 
 table_form_took : Spells z.table_constraint_form table_constraint_form
 unfolding table_constraint_form

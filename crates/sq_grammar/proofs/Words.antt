@@ -97,7 +97,7 @@ purpose_turn purpose.Arg = refl
 purpose_turn purpose.Narg = refl
 purpose_turn purpose.Slice = refl
 
-only_if_holds : {A : Type 0} (b : Bool) (x : Option A) → b ≡ true → (if b then x else None) ≡ x
+pub only_if_holds : {A : Type 0} (b : Bool) (x : Option A) → b ≡ true → (if b then x else None) ≡ x
 only_if_holds true x h = refl
 only_if_holds false x h = absurd (cc)
 
@@ -105,7 +105,7 @@ text_found : (bytes : List ℕ) (found : Option Symbol) → find words bytes ≡
 text_found bytes None h = refl
 text_found bytes (Some x) h = ap (λ b. Some b) (find_text words bytes x h)
 
-field_again : (bytes : List ℕ) → word_text (word_reading bytes) ≡ Some bytes
+pub field_again : (bytes : List ℕ) → word_text (word_reading bytes) ≡ Some bytes
 unfolding word_reading
 field_again bytes = text_found bytes (find words bytes) refl
 

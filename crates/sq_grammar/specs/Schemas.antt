@@ -49,7 +49,7 @@ use Rattle.sq_syntax.specs.declared.ddl.TypeChange.TheVariants as type_change
 use Rattle.sq_syntax.specs.Facts.{Stream}
 use Rattle.sq_syntax.specs.Pieces.{is_empty}
 use Rattle.sq_syntax.specs.Runs.{Bracket, behind, no_stop}
-use Rattle.sq_syntax.specs.Schemas.{is_comma, ends_default, ends_partition, begins_action, is as is_letters}
+use Rattle.sq_syntax.specs.Schemas.{is_comma, ends_default, opens_exclusion, ends_partition, begins_action, is as is_letters}
 use Rattle.sq_grammar.specs.Reading.{Outcome, Parser, ◌>>=◌, ◌>>◌, pure, fail, choose, begins, sees, expect, optional, here, many}
 use Rattle.sq_grammar.specs.Ahead.{Lexemes}
 use Rattle.sq_grammar.specs.Names.{name, qualified_name, type}
@@ -244,9 +244,9 @@ constraint = do
   y ← constraint_form
   pure (record { name = x; form = y })
 
--- a constraint of a column begins as these do, by which a default value ends, and as a default value does
+-- a constraint of a column begins with a word by which a default value ends
 abbrev pub starts_constraint : Reading → Bool
-starts_constraint r = is_letters (codes "default") r || (ends_default r && not (is_comma r))
+starts_constraint r = ends_default r && not (is_comma r)
 
 abbrev pub begins_constraint : Lexemes → Bool
 begins_constraint [] = false
@@ -269,7 +269,8 @@ starts_table_constraint r =
     is_letters (codes "constraint") r || (is_letters (codes "primary") r || (is_letters (codes "unique") r || (is_letters (codes "check") r || is_letters (codes "foreign") r)))
 
 abbrev pub begins_exclusion : Lexemes → Bool
-begins_exclusion tokens = begins_letters (codes "exclude") (codes "using") tokens || begins_letters (codes "exclude") (codes "(") tokens
+begins_exclusion (x ∷ y ∷ rest) = is_letters (codes "exclude") x.reading && opens_exclusion y.reading
+begins_exclusion _ = false
 
 abbrev pub begins_table_constraint : Lexemes → Bool
 begins_table_constraint [] = false

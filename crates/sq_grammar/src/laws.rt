@@ -41,7 +41,13 @@ pub fn read_statements_exactly()
     ensures { (depth : ℕ) → (tokens : List Token) → (x : Statement) → nesting_depth tokens ≤ depth → (whole (statements (suc depth)) tokens ≡ Some x) ↔ IsStatement tokens x }
 {}
 
-/// What is read of all tokens as a schema statement is well levelled, and they spell it.
-pub fn read_ddl_is_spelled()
-    ensures { (tokens : List Token) → (x : Ddl) → whole ddl tokens ≡ Some x → IsDdl tokens x }
+/// Tokens spell one schema statement at most.
+#[tactic(auto, using(crate::proofs::OneDdl::one_ddl))]
+pub fn one_ddl()
+    ensures { (tokens : List Token) → (x : Ddl) → (y : Ddl) → IsDdl tokens x → IsDdl tokens y → x ≡ y }
+{}
+
+/// What is read of all tokens as a schema statement is exactly what they spell.
+pub fn read_ddl_exactly()
+    ensures { (tokens : List Token) → (x : Ddl) → (whole ddl tokens ≡ Some x) ↔ IsDdl tokens x }
 {}

@@ -6,7 +6,7 @@ mod laws;
 mod start;
 
 pub use laws::{
-    one_expression, one_query, one_statement, read_ddl_is_spelled, read_exactly,
+    one_ddl, one_expression, one_query, one_statement, read_ddl_exactly, read_exactly,
     read_statements_exactly,
 };
 pub use start::Start;

@@ -116,7 +116,7 @@ optional_run (r ∷ run) = one_run (r ∷ run)
 -- a default value ends before these at its own depth
 abbrev pub ends_default : Reading → Bool
 ends_default r =
-    among (codes "," ∷ codes "constraint" ∷ codes "not" ∷ codes "null" ∷ codes "unique" ∷ codes "primary" ∷ codes "check" ∷ codes "references" ∷ codes "generated" ∷ codes "collate" ∷ codes "deferrable" ∷ codes "initially" ∷ []) (letters_of r)
+    among (codes "," ∷ codes "default" ∷ codes "constraint" ∷ codes "not" ∷ codes "null" ∷ codes "unique" ∷ codes "primary" ∷ codes "check" ∷ codes "references" ∷ codes "generated" ∷ codes "collate" ∷ codes "deferrable" ∷ codes "initially" ∷ []) (letters_of r)
 
 -- ---- constraints of columns and domains
 
@@ -173,10 +173,15 @@ constraint x = constraint_name x.name ++ constraint_form x.form
 abbrev pub column : Column → Pieces
 column x = name x.name ++ type x.of ++ flat_map constraint x.constraints
 
+abbrev pub opens_exclusion : Reading → Bool
+opens_exclusion (reading.Symbol s.Using) = true
+opens_exclusion (reading.Symbol s.Open) = true
+opens_exclusion _ = false
+
 -- the word EXCLUDE is a column's name where neither USING nor a bracket follows
 abbrev pub begins_exclusion : List Reading → Bool
 begins_exclusion [] = false
-begins_exclusion (r ∷ run) = is (codes "using") r || is (codes "(") r
+begins_exclusion (r ∷ run) = opens_exclusion r
 
 abbrev pub table_constraint_form : TableConstraintForm → Pieces
 table_constraint_form (table_constraint.PrimaryKey xs run) = word (codes "primary") ∷ sym s.Key ∷ sym s.Open ∷ some xs ∷ names xs ++ sym s.Close ∷ optional_run run

@@ -6,6 +6,8 @@ mod go;
 mod paths;
 mod reading_back;
 mod resolution;
+mod schema_shapes;
+mod schemas;
 mod tokens;
 mod types;
 mod words;
@@ -17,6 +19,7 @@ use sq_base::{
 };
 use sq_run::{Status, sqlc};
 use std::alloc::{AllocError, Global};
+use std::process::Abort;
 use std::test::Fail;
 
 const CONFIGURATION: &str =
@@ -1139,27 +1142,50 @@ fn ends_as(left: &Remains, text: &str, code: u8, files: usize) -> bool {
         && left.out.files().len() == files
 }
 
-#[test]
-fn each_run_ends_as_it_is_to(rt: HostRuntime) -> Result<(), Fail> {
-    let alloc = rt.alloc();
-    let project = [
-        ("sqlc.json", CONFIGURATION),
-        ("schema.sql", SCHEMA),
-        ("q.sql", QUERY),
-    ];
-    for words in &OTHER_WORDS {
-        let left = run(alloc, words, &project, NONE)?;
+/// The files of the first project.
+const PROJECT: [(&str, &str); 3] = [
+    ("sqlc.json", CONFIGURATION),
+    ("schema.sql", SCHEMA),
+    ("q.sql", QUERY),
+];
+
+fn words_are_refused(rt: &impl Abort, alloc: Global, rows: &[&[&str]]) -> Result<(), AllocError> {
+    for words in rows {
+        let left = run(alloc, words, &PROJECT, NONE)?;
         assert!(rt; ends_as(&left, USAGE, 2, 0));
     }
-    for (held, text, code) in &HELD {
+    Ok(())
+}
+
+fn projects_end(
+    rt: &impl Abort,
+    alloc: Global,
+    rows: &[(&[(&str, &str)], &str, u8)],
+) -> Result<(), AllocError> {
+    for &(held, text, code) in rows {
         let left = run(alloc, &["generate"], held, NONE)?;
-        assert!(rt; ends_as(&left, text, *code, 0), "at {text}");
-    }
-    for (failing, text, code, files) in &FAILURES {
-        let left = run(alloc, &["generate"], &project, *failing)?;
-        assert!(rt; ends_as(&left, text, *code, *files), "at {text}");
+        assert!(rt; ends_as(&left, text, code, 0), "at {text}");
     }
     Ok(())
+}
+
+fn failures_end(
+    rt: &impl Abort,
+    alloc: Global,
+    rows: &[(Failing, &str, u8, usize)],
+) -> Result<(), AllocError> {
+    for &(failing, text, code, files) in rows {
+        let left = run(alloc, &["generate"], &PROJECT, failing)?;
+        assert!(rt; ends_as(&left, text, code, files), "at {text}");
+    }
+    Ok(())
+}
+
+#[test]
+fn each_run_ends_as_it_is_to(rt: HostRuntime) -> Result<(), AllocError> {
+    words_are_refused(&rt, rt.alloc(), &OTHER_WORDS)?;
+    projects_end(&rt, rt.alloc(), &HELD)?;
+    failures_end(&rt, rt.alloc(), &FAILURES)
 }
 
 #[test]

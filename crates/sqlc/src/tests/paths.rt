@@ -1,6 +1,7 @@
 use sq_base::Name;
 use sq_run::{folder_of, is_accepted_path, joined_path};
 use std::alloc::{AllocError, Global};
+use std::process::Abort;
 use std::test::Fail;
 
 /// Where a path of this configuration leads, or nothing where it is refused.
@@ -63,13 +64,17 @@ const JOINED: [(&str, &str, &str); 48] = [
     ("-f", "a", "a"),
 ];
 
-#[test]
-fn paths_are_joined_to_the_folder(rt: HostRuntime) -> Result<(), Fail> {
-    for (configuration, path, want) in JOINED {
-        let found = led(rt.alloc(), configuration, path)?;
+fn all_lead(rt: &impl Abort, alloc: Global, rows: &[(&str, &str, &str)]) -> Result<(), AllocError> {
+    for &(configuration, path, want) in rows {
+        let found = led(alloc, configuration, path)?;
         assert_eq!(rt; found.as_str(), want, "{configuration} {path}");
     }
     Ok(())
+}
+
+#[test]
+fn paths_are_joined_to_the_folder(rt: HostRuntime) -> Result<(), AllocError> {
+    all_lead(&rt, rt.alloc(), &JOINED)
 }
 
 #[test]

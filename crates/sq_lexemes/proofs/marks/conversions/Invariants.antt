@@ -1,0 +1,12 @@
+use Rattle.std.proofs.Common.{◌≡◌, ◌-◌}
+use Rattle.sq_syntax.specs.declared.symbol.Symbol.TheVariants.{Colons}
+use Rattle.sq_grammar.specs.Reading.{sees}
+use Rattle.sq_grammar.specs.Levels.{conversion}
+use Rattle.sq_grammar.specs.Reading.{many, many_from}
+use Rattle.sq_lexemes.proofs.Turns.{ahead}
+use Rattle.sq_lexemes.proofs.marks.conversions.Given as goal
+
+abbrev pub invariant-loop-turn : goal.invariant-loop-turn
+invariant-loop-turn l =
+    let item = conversion in
+    many (sees Colons) item l.fn.tokens ≡ ahead l.found (many_from (sees Colons) item (l._turn-end - l._turn) l.tokens)

@@ -1,0 +1,43 @@
+//! How many tokens are read, and how deep they may nest.
+
+ghost use Rattle.std.specs.Prelude.{◌≡◌, ◌≤◌, map, length};
+ghost use Rattle.sq_syntax.specs.Facts as facts;
+
+use sq_syntax::{Lexeme, Reading, Symbol};
+
+/// The most tokens of an expression or a query.
+pub const MOST_TOKENS: usize = 16_384;
+
+/// How deep brackets and CASE may nest.
+pub const MOST_DEPTH: usize = 64;
+
+/// How high an expression may be.
+pub const MOST_HEIGHT: u32 = 256;
+
+/// The greatest depth from a token on, where it is this after the token.
+fn opens(reading: &Reading, depth: usize) -> usize
+    requires { depth ≤ 18446744073709551614 }
+    ensures { result ≡ facts.opens (facts.turn reading.now) depth }
+{
+    match reading {
+        Reading::Symbol(Symbol::Open | Symbol::OpenSquare | Symbol::Case) => depth + 1,
+        Reading::Symbol(Symbol::Close | Symbol::CloseSquare | Symbol::End) => {
+            depth.saturating_sub(1)
+        }
+        _ => depth,
+    }
+}
+
+/// How deep brackets and CASE nest.
+pub fn nesting_depth(lexemes: &[Lexeme]) -> usize
+    ensures value { result ≡ facts.depth_before (map (λ x. x.reading) lexemes.now) 0 }
+    ensures within { result ≤ length lexemes.now }
+{
+    let mut depth = 0;
+    let mut left = lexemes.len();
+    while left > 0 {
+        left -= 1;
+        depth = opens(&lexemes[left].reading, depth);
+    }
+    depth
+}

@@ -1,0 +1,22 @@
+//! Parses schema statements: exactly the trees that the tokens spell.
+#![tactic(auto)]
+
+mod actions;
+mod ahead;
+mod alter;
+mod alter_type;
+mod answer;
+mod columns;
+mod constraints;
+mod create;
+mod drops;
+mod lists;
+mod passed_over;
+mod references;
+mod runs;
+mod table_constraints;
+mod tails;
+mod whole;
+mod words;
+
+pub use answer::ddl;

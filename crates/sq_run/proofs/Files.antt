@@ -1,11 +1,11 @@
 -- How a read and a list of the tree follow what a run asks.
-use Rattle.std.proofs.Common.{◌≡◌, ◌≤◌, ◌<◌, ℕ, ◌+◌, List, [], ◌∷◌, length, take, Option, None, Some, Result, Ok, Err, refl, sym, ◌∙◌, ap, arith}
-use Rattle.std.specs.Prelude.{IfSome}
+use Rattle.std.proofs.Common.{◌≡◌, ◌≤◌, ◌<◌, ℕ, ◌+◌, List, [], ◌∷◌, ◌++◌, length, map, take, Option, None, Some, Result, Ok, Err, refl, sym, ◌∙◌, ap, arith}
+use Rattle.std.specs.Prelude.{IfSome, filter}
 use Rattle.std.specs.Option.{option_map}
 use Rattle.std.proofs.lemmas.Option.{IfSome_then}
 use Rattle.std.proofs.lemmas.List.{length-take, take_all}
 use Rattle.std.proofs.lemmas.Bool.{le-leb, lt-leb}
-use Rattle.sq_base.specs.Files.{bytes_at, IsListing}
+use Rattle.sq_base.specs.Files.{bytes_at, inside, entries, IsListing}
 use Rattle.sq_base.specs.Tree.{TreeState, IsTreeCall, Reads, Lists, Answers, bytes_at_most}
 use Rattle.sq_base.specs.declared.file.File.{File}
 use Rattle.sq_base.specs.declared.tree.Listing.{Listing}
@@ -13,13 +13,15 @@ use Rattle.sq_base.specs.declared.tree.Listing.TheVariants.{File as IsFile, Fold
 use Rattle.sq_base.specs.declared.tree.TreeFault.{TreeFault}
 use Rattle.sq_base.specs.declared.tree.TreeFault.TheVariants.{Missing as IsMissing, Failed as HasFailed, Memory as NoMemory}
 use Rattle.sq_run.specs.declared.read.TheConstants.{LIMIT}
+use Rattle.sq_run.specs.declared.entries.Purpose.{Purpose}
 use Rattle.sq_run.specs.declared.read.Role.{Role}
-use Rattle.sq_run.specs.declared.read.Role.TheVariants.{Source}
 use Rattle.sq_run.specs.declared.halt.Halt.{Halt}
 use Rattle.sq_run.specs.declared.halt.Halt.TheVariants.{Usage, Refused, Missing, Failed, Memory}
 use Rattle.sq_run.specs.Asked.{Follows, Judges}
 use Rattle.sq_run.specs.Halts.{IsHaltOf, IsRefusalOf}
-use Rattle.sq_run.specs.Project.{not_yet, refused_file, checked, whole_file, wanted_file}
+use Rattle.sq_run.specs.Project.{refused_file, checked, whole_file, listed}
+use Rattle.sq_run.specs.Sources.{is_read, files_in, found_at}
+use Rattle.sq_run.proofs.Ordered.{sorted_same}
 use Rattle.sq_run.proofs.Steps.{if_told, called_ok, called_refused, called_halt}
 
 -- what a call says where it found nothing
@@ -61,25 +63,34 @@ read_halted role {path = path} {old = old} {fault = fault} halt call reads halte
     called_halt {A = List ℕ} path (λ files. option_map (checked role path) (bytes_at files path)) _ _ fault halt call halted
     (missing_only (List ℕ) old.files (λ files bytes. bytes_at_most LIMIT files path ≡ Some bytes) _ _ fault reads.told (λ files nothing. rw nothing refl))
 
-pub list_folder : {path : List ℕ} {names : List (List ℕ)} {old new : TreeState} (halt : Halt) → IsTreeCall {A = Listing} old new (Ok (Folder names)) → Lists path old (Ok (Folder names)) → IsRefusalOf (not_yet Source path ∷ []) halt
-    → Follows (wanted_file path) old new (Err halt)
-list_folder {path = path} {names = names} {old = old} halt call lists halted =
-    called_refused path _ _ _ (Folder names) (not_yet Source path ∷ []) halt call halted (IfSome_then old.files lists.told (λ files is. rw (is.0, is.1) refl))
-
-pub list_found : {path : List ℕ} {old new : TreeState} (r : Result (List (List ℕ)) Halt) → IsTreeCall {A = Listing} old new (Ok IsFile) → Lists path old (Ok IsFile) → Judges (Ok (path ∷ [])) r → Follows (wanted_file path) old new r
-list_found {path = path} {old = old} (Ok value) call lists judges = called_ok path _ _ _ IsFile value call (IfSome_then old.files lists.told (λ files is. rw (is, judges) refl))
-list_found (Err (Refused findings)) call lists judges = absurd (cc judges)
-list_found (Err Usage) call lists judges = absurd judges
-list_found (Err (Missing path)) call lists judges = absurd judges
-list_found (Err (Failed path)) call lists judges = absurd judges
-list_found {path = path} {old = old} (Err Memory) call lists judges = record {
+-- a path at which something is listed, whose files were found
+list_judged : (purpose : Purpose) {path : List ℕ} {old new : TreeState} (listing : Listing) (found : List (List ℕ)) (r : Result (List (List ℕ)) Halt) → IsTreeCall {A = Listing} old new (Ok listing)
+    → IfSome old.files (λ files. found_at purpose path files ≡ Some found) → Judges (Ok found) r → Follows (listed purpose path) old new r
+list_judged purpose {path = path} {old = old} listing found (Ok value) call stands judges =
+    called_ok path _ _ _ listing value call (IfSome_then old.files stands (λ files is. ap (option_map (λ own. Ok own)) is ∙ ap Some judges))
+list_judged purpose listing found (Err (Refused findings)) call stands judges = absurd (cc judges)
+list_judged purpose listing found (Err Usage) call stands judges = absurd judges
+list_judged purpose listing found (Err (Missing path)) call stands judges = absurd judges
+list_judged purpose listing found (Err (Failed path)) call stands judges = absurd judges
+list_judged purpose {path = path} {old = old} listing found (Err Memory) call stands judges = record {
   files = call.files;
   faults = omega (arith, call.faults);
   missings = omega (arith, call.missings);
   asked = if_told old.files (λ files. record { made = path ∷ []; ends = ([], refl); calls = call.calls });
 }
 
-pub list_halted : {path : List ℕ} {old new : TreeState} {fault : TreeFault} (halt : Halt) → IsTreeCall {A = Listing} old new (Err fault) → Lists path old (Err fault) → IsHaltOf fault path halt
-    → Follows (wanted_file path) old new (Err halt)
-list_halted {path = path} {old = old} {fault = fault} halt call lists halted =
+pub list_folder : (purpose : Purpose) {path : List ℕ} {names : List (List ℕ)} {old new : TreeState} (r : Result (List (List ℕ)) Halt) → IsTreeCall {A = Listing} old new (Ok (Folder names)) → Lists path old (Ok (Folder names))
+    → Judges (Ok (files_in purpose path names)) r → Follows (listed purpose path) old new r
+list_folder purpose {path = path} {names = names} {old = old} r call lists judges =
+    list_judged purpose (Folder names) (files_in purpose path names) r call
+    (IfSome_then old.files lists.told (λ files is. rw (is.0, is.1) (ap (λ (own : List (List ℕ)). Some (map (λ name. inside path ++ name) (filter (is_read purpose) own))) (sym (sorted_same (entries path files) names is.2)))))
+    judges
+
+pub list_found : (purpose : Purpose) {path : List ℕ} {old new : TreeState} (r : Result (List (List ℕ)) Halt) → IsTreeCall {A = Listing} old new (Ok IsFile) → Lists path old (Ok IsFile) → Judges (Ok (path ∷ [])) r
+    → Follows (listed purpose path) old new r
+list_found purpose {path = path} {old = old} r call lists judges = list_judged purpose IsFile (path ∷ []) r call (IfSome_then old.files lists.told (λ files is. rw is refl)) judges
+
+pub list_halted : (purpose : Purpose) {path : List ℕ} {old new : TreeState} {fault : TreeFault} (halt : Halt) → IsTreeCall {A = Listing} old new (Err fault) → Lists path old (Err fault) → IsHaltOf fault path halt
+    → Follows (listed purpose path) old new (Err halt)
+list_halted purpose {path = path} {old = old} {fault = fault} halt call lists halted =
     called_halt {A = Listing} path _ _ _ fault halt call halted (missing_only Listing old.files (λ files listing. IsListing files path listing) _ _ fault lists.told (λ files nothing. rw (nothing.no_file, nothing.no_folder) refl))

@@ -1,12 +1,13 @@
--- The types of the first tables, and of what is judged over them.
-use Rattle.std.proofs.Common.{◌≡◌, ◌⊎◌, ℕ, zero, suc, Bool, true, false, cond, List, [], ◌∷◌, ◌++◌, Option, None, Some, Result, Ok, Err, refl, sym, ap, subst, inl, inr, slice_get}
-use Rattle.std.specs.Prelude.{codes, nat_lt, length}
+-- The types whose forms are built, and what is judged over tables that have them.
+use Rattle.std.proofs.Common.{◌≡◌, ◌⊎◌, ℕ, zero, suc, ◌&&◌, not, Bool, true, false, List, [], ◌∷◌, ◌++◌, Option, None, Some, Result, Ok, Err, refl, subst, inl, inr, slice_get}
+use Rattle.std.specs.Prelude.{codes}
 use Rattle.std.specs.Option.{option_map}
-use Rattle.std.specs.List.{AllByRecursion, AllZip}
-use Rattle.std.proofs.lemmas.Bool.{cases_Bool}
+use Rattle.std.specs.List.{AllByRecursion, AllZip, list_all}
 use Rattle.std.proofs.lemmas.Option.{same_Some}
 use Rattle.sq_base.specs.declared.refusal.Refusal.{Refusal}
 use Rattle.sq_base.specs.declared.types.PgType.{PgType}
+use Rattle.sq_base.specs.declared.types.Scalar.{Scalar}
+use Rattle.sq_base.specs.declared.types.Scalar.TheVariants as scalar
 use Rattle.sq_catalog.specs.Catalogue.{placed, placed_column, place_of_column}
 use Rattle.sq_catalog.specs.declared.table.Column.{Column as TableColumn}
 use Rattle.sq_catalog.specs.declared.table.Table.{Table}
@@ -16,18 +17,18 @@ use Rattle.sq_core.specs.Forms.{IsPrinted}
 use Rattle.sq_core.specs.Identifiers.{numbered, pascal}
 use Rattle.sq_core.specs.Signature.{field, fields_after, shown_columns}
 use Rattle.sq_core.specs.Sound.{Prints, ShowsColumn}
-use Rattle.sq_syntax.specs.declared.token.Token.{Token}
-use Rattle.sq_syntax.specs.declared.token.TokenKind.{TokenKind}
-use Rattle.sq_syntax.specs.declared.token.TokenKind.TheVariants.{Word, Punct}
-use Rattle.sq_run.specs.declared.statements.CreateTable.{CreateTable}
 use Rattle.sq_run.specs.declared.statements.Named.{Named}
 use Rattle.sq_run.specs.Judged.{judged_names, after_these, node_of, output_of, unknown}
-use Rattle.sq_run.specs.Statements.{Part, is, after, name_at, integer, text, type_at, not_null_at, column_at, next, items_from, items_at, with_item, ended, has_twin, distinct, limited, create_table}
-use Rattle.sq_run.proofs.OkSteps.{bind_some}
+use Rattle.sq_run.specs.Schema.{is_first, is_first_scalar, has_first_types}
 
--- integer or text
-abbrev pub IsFirst : PgType → Type 0
-IsFirst of = (of ≡ integer) ⊎ (of ≡ text)
+-- smallint, integer, bigint, boolean or text
+abbrev pub IsFirstScalar : Scalar → Type 0
+IsFirstScalar of = (of ≡ scalar.SmallInt) ⊎ ((of ≡ scalar.Integer) ⊎ ((of ≡ scalar.BigInt) ⊎ ((of ≡ scalar.Boolean) ⊎ (of ≡ scalar.Text))))
+
+-- one of these, and no array
+pub record IsFirst (of : PgType) : Type 0 where
+  pub no_array : of.array ≡ false
+  pub first : IsFirstScalar of.scalar
 
 abbrev pub HasFirst : TableColumn → Type 0
 HasFirst column = IsFirst column.of
@@ -35,75 +36,57 @@ HasFirst column = IsFirst column.of
 abbrev pub ShowsFirst : Output → Type 0
 ShowsFirst output = IsFirst output.of
 
-type_first : (ts : List Token) (r : PgType × List Token) → type_at ts ≡ Some r → IsFirst r.0
-unfolding type_at
-type_first [] r is = absurd (cc is)
-type_first (t ∷ ts) r found = elim (cases_Bool (is Word (codes "integer") t)) [
-  | inl yes_integer ↦ inl (ap (λ (o : Option (PgType × List Token)). elim o [ None ↦ integer | Some x ↦ x.0 ]) (sym (rw yes_integer at found)))
-  | inr other ↦ elim (cases_Bool (is Word (codes "text") t)) [
-    | inl yes_text ↦ inr (ap (λ (o : Option (PgType × List Token)). elim o [ None ↦ text | Some x ↦ x.0 ]) (sym (rw (other, yes_text) at found)))
-    | inr none ↦ absurd (cc (rw (other, none) at found))
-  ]
-]
+-- all columns of a table have these types
+abbrev pub HasFirstTypes : Table → Type 0
+HasFirstTypes table = AllByRecursion HasFirst table.columns
 
-column_first : (ts : List Token) (r : TableColumn × List Token) → column_at ts ≡ Some r → HasFirst r.0
-unfolding column_at
-column_first ts r found =
-    let name = bind_some (name_at ts) _ r found in
-    let of = bind_some (type_at name.0.1) _ r name.2 in
-    let null = bind_some (not_null_at of.0.1) _ r of.2 in
-    subst (λ (x : TableColumn × List Token). HasFirst x.0) (same_Some _ _ null.2) (type_first name.0.1 of.0 of.1)
+scalar_first : (of : Scalar) → is_first_scalar of ≡ true → IsFirstScalar of
+scalar_first scalar.SmallInt is = inl refl
+scalar_first scalar.Integer is = inr (inl refl)
+scalar_first scalar.BigInt is = inr (inr (inl refl))
+scalar_first scalar.Boolean is = inr (inr (inr (inl refl)))
+scalar_first scalar.Text is = inr (inr (inr (inr refl)))
+scalar_first scalar.Real is = absurd (cc is)
+scalar_first scalar.DoublePrecision is = absurd (cc is)
+scalar_first scalar.Numeric is = absurd (cc is)
+scalar_first scalar.Varchar is = absurd (cc is)
+scalar_first scalar.Character is = absurd (cc is)
+scalar_first scalar.Bytea is = absurd (cc is)
+scalar_first scalar.Date is = absurd (cc is)
+scalar_first scalar.Time is = absurd (cc is)
+scalar_first scalar.Timestamp is = absurd (cc is)
+scalar_first scalar.TimestampTz is = absurd (cc is)
+scalar_first scalar.Interval is = absurd (cc is)
+scalar_first scalar.Uuid is = absurd (cc is)
+scalar_first scalar.Json is = absurd (cc is)
+scalar_first scalar.Jsonb is = absurd (cc is)
+scalar_first (scalar.Opaque place) is = absurd (cc is)
+scalar_first (scalar.Enum id) is = absurd (cc is)
+scalar_first (scalar.Domain id) is = absurd (cc is)
+scalar_first scalar.Unknown is = absurd (cc is)
 
-items_first : (kind : TokenKind) (close : List ℕ) (n : ℕ) (ts : List Token) (r : List TableColumn × List Token) → items_from column_at kind close n ts ≡ Some r → AllByRecursion HasFirst r.0
-items_first kind close zero ts r found = absurd (cc found)
-items_first kind close (suc n) ts r found =
-    let first = bind_some (column_at ts) _ r found in
-    let more = bind_some (next kind close first.0.1) _ r first.2 in
-    by_more (λ us l. items_first kind close n us l) first.0.0 (column_first ts first.0 first.1) more.0.0 more.0.1 more.2
+type_first : (array : Bool) (of : Scalar) → (not array && is_first_scalar of) ≡ true → IsFirst (record { scalar = of; array = array })
+type_first true of is = absurd (cc is)
+type_first false of is = record { no_array = refl; first = scalar_first of is }
+
+first_of_all : {A : Type 0} (p : A → Bool) (x : A) (xs : List A) → list_all p (x ∷ xs) ≡ true → (p x ≡ true) × (list_all p xs ≡ true)
+first_of_all p x xs is = split (p x) (list_all p xs) is
   where
-    by_later : (c : TableColumn) → HasFirst c → (later : Part (List TableColumn)) → ((l : List TableColumn × List Token) → later ≡ Some l → AllByRecursion HasFirst l.0) → with_item c later ≡ Some r → AllByRecursion HasFirst r.0
-    by_later c has None all same = absurd (cc same)
-    by_later c has (Some l) all same = subst (λ (x : List TableColumn × List Token). AllByRecursion HasFirst x.0) (same_Some _ _ same) (has, all l refl)
+    split : (a b : Bool) → (a && b) ≡ true → (a ≡ true) × (b ≡ true)
+    split true b is = (refl, is)
+    split false b is = absurd (cc is)
 
-    by_more : ((us : List Token) (l : List TableColumn × List Token) → items_from column_at kind close n us ≡ Some l → AllByRecursion HasFirst l.0) → (c : TableColumn) → HasFirst c → (m : Bool) (us : List Token)
-        → cond m (with_item c (items_from column_at kind close n us)) (Some (c ∷ [], us)) ≡ Some r → AllByRecursion HasFirst r.0
-    by_more all c has true us same = by_later c has (items_from column_at kind close n us) (λ l. all us l) same
-    by_more all c has false us same = subst (λ (x : List TableColumn × List Token). AllByRecursion HasFirst x.0) (same_Some _ _ same) (has, tt)
+columns_first : (columns : List TableColumn) → list_all (λ (column : TableColumn). is_first column.of) columns ≡ true → AllByRecursion HasFirst columns
+columns_first [] is = tt
+columns_first (c ∷ columns) is =
+    let parts = first_of_all (λ (column : TableColumn). is_first column.of) c columns is in
+    (type_first c.of.array c.of.scalar parts.0, columns_first columns parts.1)
 
--- the columns of a first table are integer or text, and no two have one name
-pub record IsFirstTable (columns : List TableColumn) : Type 0 where
-  pub types : AllByRecursion HasFirst columns
-  pub apart : has_twin columns ≡ false
-
-distinct_first : (columns cs : List TableColumn) → AllByRecursion HasFirst columns → distinct columns ≡ Some cs → IsFirstTable cs
-unfolding distinct
-distinct_first columns cs all found = elim (cases_Bool (has_twin columns)) [
-  | inl twin ↦ absurd (cc (rw twin at found))
-  | inr none ↦
-      let same : columns ≡ cs = ap (λ (o : Option (List TableColumn)). elim o [ None ↦ cs | Some x ↦ x ]) (rw none at found) in
-      subst IsFirstTable same (record { types = all; apart = none })
-]
-
-limited_first : (columns cs : List TableColumn) → IsFirstTable columns → limited columns ≡ Some cs → IsFirstTable cs
-unfolding limited
-limited_first columns cs first found = elim (cases_Bool (nat_lt 1600 (length columns))) [
-  | inl many ↦ absurd (cc (rw many at found))
-  | inr few ↦ subst IsFirstTable (same_Some _ _ (rw few at found)) first
-]
-
-pub table_first : (ts : List Token) (table : CreateTable) → create_table ts ≡ Some table → IsFirstTable table.columns
-unfolding create_table
-table_first ts table found =
-    let a = bind_some (after Word (codes "create") ts) _ table found in
-    let b = bind_some (after Word (codes "table") a.0) _ table a.2 in
-    let name = bind_some (name_at b.0) _ table b.2 in
-    let c = bind_some (after Punct (codes "(") name.0.1) _ table name.2 in
-    let items = bind_some (items_at column_at Punct (codes ")") c.0) _ table c.2 in
-    let end = bind_some (ended items.0.1) _ table items.2 in
-    let cs = bind_some (distinct items.0.0) _ table end.2 in
-    let few = bind_some (limited cs.0) _ table cs.2 in
-    subst (λ (t : CreateTable). IsFirstTable t.columns) (same_Some _ _ few.2)
-    (limited_first cs.0 few.0 (distinct_first items.0.0 cs.0 (items_first Punct (codes ")") _ c.0 items.0 items.1) cs.1) few.1)
+pub tables_first : (tables : List Table) → list_all has_first_types tables ≡ true → AllByRecursion HasFirstTypes tables
+tables_first [] is = tt
+tables_first (t ∷ tables) is =
+    let parts = first_of_all has_first_types t tables is in
+    (columns_first t.columns parts.0, tables_first tables parts.1)
 
 -- what holds of all holds of the one at a place
 pub at_place : {A : Type 0} (P : A → Type 0) (xs : List A) (i : ℕ) (x : A) → AllByRecursion P xs → slice_get xs i ≡ Some x → P x
@@ -122,7 +105,7 @@ placed_there {A} xs (Some at) r same = by_there (slice_get xs at) refl same
 pub same_ok : {A : Type 0} (r : Result A Refusal) (x y : A) → r ≡ Ok x → r ≡ Ok y → x ≡ y
 same_ok r x y one other = cc (one, other)
 
--- what judged names show: columns of the table, which are integer or text
+-- what judged names show: columns of the table, which have these types
 pub record ShowsNames (table : Table) (r : List Node × List Output) : Type 0 where
   pub shows : AllZip (ShowsColumn table) r.0 r.1
   pub types : AllByRecursion ShowsFirst r.1
@@ -144,13 +127,16 @@ names_show table (named ∷ names) r first same = by_column (λ l. names_show ta
     by_column all None there same = absurd (cc same)
     by_column all (Some c) there same = by_later c.0 c.1 (placed_there table.columns (place_of_column table named.name) c there) (judged_names table names) all same
 
-first_printed : (of : PgType) → IsFirst of → IsPrinted of
-first_printed of (inl same) = rw same refl
-first_printed of (inr same) = rw same refl
+scalar_printed : (array : Bool) (of : Scalar) → IsFirstScalar of → IsPrinted (record { scalar = of; array = array })
+scalar_printed array of (inl is) = rw is refl
+scalar_printed array of (inr (inl is)) = rw is refl
+scalar_printed array of (inr (inr (inl is))) = rw is refl
+scalar_printed array of (inr (inr (inr (inl is)))) = rw is refl
+scalar_printed array of (inr (inr (inr (inr is)))) = rw is refl
 
 prints : (identifier : List ℕ) (output : Output) → ShowsFirst output → Prints output (field identifier output)
 unfolding field
-prints identifier output first = record { printed = first_printed output.of first; form = refl }
+prints identifier output first = record { printed = scalar_printed output.of.array output.of.scalar first.first; form = refl }
 
 fields_print : (earlier : List (List ℕ)) (outputs : List Output) → AllByRecursion ShowsFirst outputs → AllZip Prints outputs (fields_after earlier outputs)
 fields_print earlier [] all = tt

@@ -18,16 +18,18 @@ use Rattle.sq_run.specs.declared.command_line.Task.{Task}
 use Rattle.sq_run.specs.declared.command_line.Task.TheVariants.{Generate}
 use Rattle.sq_run.specs.declared.configuration.Block.{Block}
 use Rattle.sq_run.specs.declared.configuration.Entry.{Entry}
+use Rattle.sq_run.specs.declared.entries.Purpose.{Purpose}
+use Rattle.sq_run.specs.declared.entries.Purpose.TheVariants.{Schema, Queries}
 use Rattle.sq_run.specs.declared.outputs.Output.{Output}
 use Rattle.sq_run.specs.declared.sources.SourceFile.{SourceFile}
 use Rattle.sq_run.specs.declared.status.Status.{Status}
 use Rattle.sq_run.specs.declared.status.Status.TheVariants.{Done}
 use Rattle.sq_run.specs.CommandLine.{request_of}
-use Rattle.sq_run.specs.Headline.{IsSource, IsWritten, InOrder, IsBlock, IsHeadline, Headline}
+use Rattle.sq_run.specs.Headline.{IsSource, AreSources, IsWritten, InOrder, IsBlock, IsHeadline, Headline}
 use Rattle.sq_run.specs.Project.{models_of, placed, written, block_files, asked_by, task_asked}
 use Rattle.sq_run.specs.Run.{Outside, Cause, Kept, HoldsAll, files_asked}
 use Rattle.sq_run.proofs.Kept.{told_then}
-use Rattle.sq_run.proofs.Plans.{FromSource, FromEntry, is_source, accepted_from, block_from, outs_apart, written_ok}
+use Rattle.sq_run.proofs.Plans.{FromSource, FromSources, FromEntry, is_source, accepted_from, block_from, outs_apart, written_ok}
 use Rattle.sq_run.proofs.Origins.{all_read, schema_from}
 use Rattle.sq_run.proofs.FoldersApart.{IsHeldAt, all_held}
 use Rattle.sq_run.proofs.OkSteps.{Gathered, gathered_ok, EachOk}
@@ -47,11 +49,14 @@ all_back : {X : Type 0} (P : X → Type 0) (xs ys : List X) → AllByRecursion P
 all_back P [] ys all = all
 all_back P (x ∷ xs) ys all = all_back P xs ys all.1
 
-sources_held : (held : List File) (paths : List (List ℕ)) (files : List SourceFile) → AllZip (FromSource held) paths files → AllZip (IsSource held) paths files
-sources_held held [] [] from = tt
-sources_held held [] (file ∷ files) from = absurd from
-sources_held held (path ∷ paths) [] from = absurd from
-sources_held held (path ∷ paths) (file ∷ files) from = (is_source held path file from.0, sources_held held paths files from.1)
+all_held_at : (purpose : Purpose) (held : List File) (paths : List (List ℕ)) (files : List SourceFile) → AllZip (FromSource purpose held) paths files → AllZip (IsSource purpose held) paths files
+all_held_at purpose held [] [] from = tt
+all_held_at purpose held [] (file ∷ files) from = absurd from
+all_held_at purpose held (path ∷ paths) [] from = absurd from
+all_held_at purpose held (path ∷ paths) (file ∷ files) from = (is_source purpose held path file from.0, all_held_at purpose held paths files from.1)
+
+sources_held : (purpose : Purpose) (held : List File) (paths : List (List ℕ)) (files : List SourceFile) → FromSources purpose held paths files → AreSources purpose held paths files
+sources_held purpose held paths files from = record { found = from.found; stand_for = from.stand_for; all_held = all_held_at purpose held from.found files from.from }
 
 module _ (laws : Laws) (path : List ℕ) (held now : List File) where
   -- what was put for the outputs of a block
@@ -80,8 +85,8 @@ module _ (laws : Laws) (path : List ℕ) (held now : List File) where
   block_put : (block : Block) (put : List File) → (block_files path block held).answer ≡ Some (Ok put) → AllByRecursion (IsHeldAt now) put → IsBlock path held now block put
   block_put block put is all =
       let from = block_from path block held put is in
-      let schema = schema_from path from.schema from.contents (all_read held block.schema from.schema from.schema_held) from.replays in
-      let said = says_over laws from.contents schema from.queries from.declared (all_read held block.queries from.queries from.queries_held) from.judges in
+      let schema = schema_from laws.replays laws.begins path from.schema from.contents from.replays in
+      let said = says_over laws from.contents schema from.queries from.declared (all_read Queries held from.queries_held.found from.queries from.queries_held.from) from.judges in
       record {
         outputs = from.outputs;
         schema = from.schema;
@@ -89,9 +94,9 @@ module _ (laws : Laws) (path : List ℕ) (held now : List File) where
         queries = from.queries;
         signatures = signatures_of from.declared;
         has_outputs = from.has_outputs;
-        schema_held = sources_held held block.schema from.schema from.schema_held;
+        schema_held = sources_held Schema held block.schema from.schema from.schema_held;
         replays = from.replays;
-        queries_held = sources_held held block.queries from.queries from.queries_held;
+        queries_held = sources_held Queries held block.queries from.queries from.queries_held;
         says = said.says;
         written = outputs_put (models_of from.contents) from.declared (signatures_of from.declared) said.reads block.entries from.outputs put from.entries from.laid_out all;
       }

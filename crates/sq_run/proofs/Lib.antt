@@ -1,6 +1,7 @@
 pub mod BlocksApart
 pub mod Calls
 pub mod Causes
+pub mod Cuts
 pub mod Each
 pub mod EachJudged
 pub mod FileNames
@@ -11,12 +12,15 @@ pub mod FoldersApart
 pub mod Headlined
 pub mod Items
 pub mod Kept
+pub mod Marked
 pub mod Models
 pub mod OkSteps
+pub mod Ordered
 pub mod Origins
 pub mod Placeless
 pub mod Plans
 pub mod Printed
+pub mod ReadDdl
 pub mod Readables
 pub mod Says
 pub mod Seen
@@ -24,5 +28,4 @@ pub mod Simple
 pub mod Sizes
 pub mod Stated
 pub mod Steps
-pub mod TableMade
 pub mod Together

@@ -1,19 +1,18 @@
 -- A query that gives all columns of its table in order shows what the table's model shows.
 use Rattle.std.proofs.Common.{◌≡◌, ◌≢◌, ℕ, zero, suc, ◌&&◌, ◌||◌, Bool, true, false, List, [], ◌∷◌, length, map, Option, None, Some, Result, Ok, Err, refl, sym, ◌∙◌, ap, subst, inl, inr, slice_get}
-use Rattle.std.specs.List.{AllByRecursion}
+use Rattle.std.specs.List.{AllByRecursion, list_any}
 use Rattle.std.specs.Str.{bytes_eq}
 use Rattle.std.proofs.lemmas.Bool.{cases_Bool}
 use Rattle.std.proofs.lemmas.Option.{same_Some}
 use Rattle.std.proofs.lemmas.Slice.Eq.{bytes_eq-Decides}
 use Rattle.sq_base.specs.declared.refusal.Refusal.{Refusal}
-use Rattle.sq_catalog.specs.Catalogue.{placed_column, place_of_column}
+use Rattle.sq_catalog.specs.Catalogue.{placed_column, place_of_column, repeated_column}
 use Rattle.sq_catalog.specs.declared.table.Column.{Column as TableColumn}
 use Rattle.sq_catalog.specs.declared.table.Table.{Table}
 use Rattle.sq_core.specs.declared.node.Node.{Node}
 use Rattle.sq_core.specs.declared.signature.Output.{Output}
 use Rattle.sq_run.specs.declared.statements.Named.{Named}
 use Rattle.sq_run.specs.Judged.{judged_names, after_these, node_of, output_of, unknown, have_names}
-use Rattle.sq_run.specs.Statements.{has_name, has_twin}
 use Rattle.sq_run.proofs.FirstTypes.{placed_there, same_ok}
 
 -- a column stands somewhere in these
@@ -67,6 +66,10 @@ names_size table (named ∷ names) r same = by_column (λ l. names_size table na
     by_column all None same = absurd (cc same)
     by_column all (Some c) same = by_later c.0 c.1 (judged_names table names) all same
 
+-- whether one of these columns has this name
+abbrev has_name : List TableColumn → List ℕ → Bool
+has_name columns name = list_any (λ (other : TableColumn). bytes_eq other.name name) columns
+
 -- a column that stands there is one of that name
 named_there : (columns : List TableColumn) (at : ℕ) (b : TableColumn) (name : List ℕ) → slice_get columns at ≡ Some b → bytes_eq b.name name ≡ true → has_name columns name ≡ true
 named_there [] at b name there same = absurd (cc there)
@@ -82,19 +85,26 @@ pub either_none : (a b : Bool) → (a || b) ≡ false → (a ≡ false) × (b �
 either_none true b none = absurd (cc none)
 either_none false b none = (refl, none)
 
+-- where no two columns have one name, the first has a name of its own
+none_repeated : (c : TableColumn) (columns : List TableColumn) → repeated_column (c ∷ columns) ≡ None → (has_name columns c.name ≡ false) × (repeated_column columns ≡ None)
+none_repeated c columns none = elim (cases_Bool (has_name columns c.name)) [
+  | inl twin ↦ absurd (cc (rw twin at none))
+  | inr apart ↦ (apart, rw apart at none)
+]
+
 -- columns that have one name are one, where no two have
-one_of_name : (columns : List TableColumn) (i j : ℕ) (a b : TableColumn) → has_twin columns ≡ false → slice_get columns i ≡ Some a → slice_get columns j ≡ Some b → bytes_eq a.name b.name ≡ true → a ≡ b
+one_of_name : (columns : List TableColumn) (i j : ℕ) (a b : TableColumn) → repeated_column columns ≡ None → slice_get columns i ≡ Some a → slice_get columns j ≡ Some b → bytes_eq a.name b.name ≡ true → a ≡ b
 one_of_name [] i j a b apart first second same = absurd (cc first)
 one_of_name (c ∷ columns) zero zero a b apart first second same = sym (same_Some _ _ first) ∙ same_Some _ _ second
 one_of_name (c ∷ columns) zero (suc j) a b apart first second same =
-    let none = (either_none (has_name columns c.name) (has_twin columns) apart).0 in
+    let none = (none_repeated c columns apart).0 in
     let is : c.name ≡ b.name = ap (λ (x : TableColumn). x.name) (same_Some _ _ first) ∙ (bytes_eq-Decides a.name b.name).0 same in
     absurd (cc (none, named_there columns j b c.name second ((bytes_eq-Decides b.name c.name).1 (sym is))))
 one_of_name (c ∷ columns) (suc i) zero a b apart first second same =
-    let none = (either_none (has_name columns c.name) (has_twin columns) apart).0 in
+    let none = (none_repeated c columns apart).0 in
     let is : a.name ≡ c.name = (bytes_eq-Decides a.name b.name).0 same ∙ sym (ap (λ (x : TableColumn). x.name) (same_Some _ _ second)) in
     absurd (cc (none, named_there columns i a c.name first ((bytes_eq-Decides a.name c.name).1 is)))
-one_of_name (c ∷ columns) (suc i) (suc j) a b apart first second same = one_of_name columns i j a b (either_none (has_name columns c.name) (has_twin columns) apart).1 first second same
+one_of_name (c ∷ columns) (suc i) (suc j) a b apart first second same = one_of_name columns i j a b (none_repeated c columns apart).1 first second same
 
 moved : (c : TableColumn) (columns cs : List TableColumn) → AllByRecursion (StandsIn columns) cs → AllByRecursion (StandsIn (c ∷ columns)) cs
 moved c columns [] all = tt
@@ -109,7 +119,7 @@ pub both : (a b : Bool) → (a && b) ≡ true → (a ≡ true) × (b ≡ true)
 both true b is = (refl, is)
 both false b is = absurd (cc is)
 
-outputs_are : (columns : List TableColumn) → has_twin columns ≡ false → (os : List Output) (cs : List TableColumn) → AllByRecursion (ComesFrom columns) os → AllByRecursion (StandsIn columns) cs → length os ≡ length cs → have_names os cs ≡ true → os ≡ map output_of cs
+outputs_are : (columns : List TableColumn) → repeated_column columns ≡ None → (os : List Output) (cs : List TableColumn) → AllByRecursion (ComesFrom columns) os → AllByRecursion (StandsIn columns) cs → length os ≡ length cs → have_names os cs ≡ true → os ≡ map output_of cs
 outputs_are columns apart [] [] come stand long named = refl
 outputs_are columns apart [] (c ∷ cs) come stand long named = absurd (cc long)
 outputs_are columns apart (o ∷ os) [] come stand long named = absurd (cc long)
@@ -122,5 +132,5 @@ outputs_are columns apart (o ∷ os) (c ∷ cs) come stand long named =
     ap (λ (x : Output). x ∷ os) (from.2 ∙ ap output_of column) ∙ ap (λ (xs : List Output). output_of c ∷ xs) later
 
 -- outputs that come from the columns and have their names in order are theirs
-pub all_outputs : (columns : List TableColumn) → has_twin columns ≡ false → (os : List Output) → AllByRecursion (ComesFrom columns) os → length os ≡ length columns → have_names os columns ≡ true → os ≡ map output_of columns
+pub all_outputs : (columns : List TableColumn) → repeated_column columns ≡ None → (os : List Output) → AllByRecursion (ComesFrom columns) os → length os ≡ length columns → have_names os columns ≡ true → os ≡ map output_of columns
 all_outputs columns apart os come long named = outputs_are columns apart os columns come (each_there columns) long named

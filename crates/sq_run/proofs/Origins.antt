@@ -1,7 +1,7 @@
--- Where a catalogue's table, a query's text and its columns come from.
-use Rattle.std.proofs.Common.{◌≡◌, ◌≢◌, ◌≤◌, ℕ, ◌-◌, true, List, [], ◌∷◌, length, take, drop, Option, None, Some, Result, Ok, Err, refl, sym, ◌∙◌, ap, subst, inl, inr, arith, slice_get}
-use Rattle.std.specs.Prelude.{codes}
-use Rattle.std.specs.List.{AllByRecursion, AllZip}
+-- Where a catalogue, a query's text and its columns come from.
+use Rattle.std.proofs.Common.{◌≡◌, ◌≢◌, ◌≤◌, ℕ, ◌-◌, ◌&&◌, not, Bool, true, false, List, [], ◌∷◌, length, take, drop, Option, None, Some, Result, Ok, Err, refl, sym, ◌∙◌, ap, subst, inl, inr, arith, slice_get}
+use Rattle.std.specs.Prelude.{codes, if◌then◌else◌}
+use Rattle.std.specs.List.{AllByRecursion, AllZip, list_all}
 use Rattle.std.specs.Option.{option_map}
 use Rattle.std.proofs.lemmas.Bool.{cases_Bool}
 use Rattle.std.proofs.lemmas.List.{length-drop}
@@ -9,33 +9,38 @@ use Rattle.std.proofs.lemmas.Option.{same_Some}
 use Rattle.sq_base.specs.declared.file.File.{File}
 use Rattle.sq_base.specs.declared.refusal.Refusal.{Refusal}
 use Rattle.sq_catalog.specs.Contents.{Contents}
-use Rattle.sq_catalog.specs.Catalogue.{placed_table, place_of_table}
+use Rattle.sq_catalog.specs.Catalogue.{empty, placed_table, place_of_table}
 use Rattle.sq_catalog.specs.declared.table.Table.{Table}
 use Rattle.sq_core.specs.Sound.{select as select_core}
 use Rattle.sq_core.specs.declared.node.Node.{Node}
 use Rattle.sq_core.specs.declared.signature.Output.{Output as OutputColumn}
 use Rattle.sq_lexer.specs.Printed.{printed}
 use Rattle.sq_lexer.specs.TokenList.{token_list}
+use Rattle.sq_migrate.specs.Kept.{IsCatalogue}
+use Rattle.sq_migrate.specs.Replay.{replayed}
+use Rattle.sq_syntax.specs.declared.ddl.Ddl.{Ddl}
 use Rattle.sq_syntax.specs.declared.token.Token.{Token}
 use Rattle.sq_syntax.specs.declared.token.TokenKind.{TokenKind}
 use Rattle.sq_syntax.specs.declared.token.TokenKind.TheVariants.{Word, Quoted, Text, EText, Dollar, Number, Parameter, Named, Operator, Punct, Note}
+use Rattle.sq_run.specs.declared.halt.Finding.{Finding}
+use Rattle.sq_run.specs.declared.halt.Finding.TheVariants.{Configuration as InConfiguration}
 use Rattle.sq_run.specs.declared.judge.Judged.{Judged}
+use Rattle.sq_run.specs.declared.entries.Purpose.{Purpose}
 use Rattle.sq_run.specs.declared.query.Query.{Query}
-use Rattle.sq_run.specs.declared.statements.CreateTable.{CreateTable}
 use Rattle.sq_run.specs.declared.statements.Select.{Select}
 use Rattle.sq_run.specs.Judged.{judged, judged_names, judged_select, model_used, unknown}
 use Rattle.sq_run.specs.declared.read.TheConstants.{LIMIT}
 use Rattle.sq_run.specs.declared.sources.SourceFile.{SourceFile}
-use Rattle.sq_run.specs.Asked.{each_judged}
-use Rattle.sq_run.specs.Project.{catalogue_of, table_of, table_by, tables_by, tables_in, without_notes}
+use Rattle.sq_run.specs.Schema.{Made, made, read_ddl, replay_of, statements, without_notes, after_read, after_statement, after_statements, after_file, after_files, all_made, has_first_types, has_enums, has_domains, is_built, catalogue_by, catalogue_of}
 use Rattle.sq_run.specs.Names.{is_identifier}
 use Rattle.sq_run.specs.Query.{behind, before_end, query_name, noted_name, annotation, annotated, query_of}
-use Rattle.sq_run.specs.Statements.{one_statement, create_table, select}
-use Rattle.sq_run.proofs.FirstTypes.{placed_there, same_ok}
-use Rattle.sq_run.proofs.OkSteps.{bind_some, no_items, EachOk, each_ok, all_both}
-use Rattle.sq_run.proofs.Sizes.{list_size, notes_size, table_size, query_size, statement_size}
-use Rattle.sq_run.proofs.Plans.{FromSource, catalogue_ok}
-use Rattle.sq_run.proofs.TableMade.{only_with}
+use Rattle.sq_run.specs.Statements.{one_statement, select}
+use Rattle.sq_run.proofs.FirstTypes.{HasFirstTypes, tables_first, placed_there, same_ok}
+use Rattle.sq_run.proofs.OkSteps.{bind_some}
+use Rattle.sq_run.proofs.Sizes.{list_size, query_size, statement_size}
+use Rattle.sq_run.specs.Sources.{bytes_read}
+use Rattle.sq_run.proofs.Marked.{bytes_read_size}
+use Rattle.sq_run.proofs.Plans.{FromSource}
 
 -- the tokens of a source that was read
 pub record IsRead (file : SourceFile) : Type 0 where
@@ -44,53 +49,63 @@ pub record IsRead (file : SourceFile) : Type 0 where
   pub listed : token_list number bytes ≡ Ok file.tokens
   pub small : length file.tokens ≤ LIMIT
 
-pub all_read : (held : List File) (paths : List (List ℕ)) (files : List SourceFile) → AllZip (FromSource held) paths files → AllByRecursion IsRead files
-all_read held [] [] from = tt
-all_read held [] (file ∷ files) from = absurd from
-all_read held (path ∷ paths) [] from = absurd from
-all_read held (path ∷ paths) (file ∷ files) from =
+pub all_read : (purpose : Purpose) (held : List File) (paths : List (List ℕ)) (files : List SourceFile) → AllZip (FromSource purpose held) paths files → AllByRecursion IsRead files
+all_read purpose held [] [] from = tt
+all_read purpose held [] (file ∷ files) from = absurd from
+all_read purpose held (path ∷ paths) [] from = absurd from
+all_read purpose held (path ∷ paths) (file ∷ files) from =
     let one = from.0 in
-    (record { number = one.number; bytes = one.bytes; listed = one.listed; small = omega (arith, list_size one.number one.bytes file.tokens one.listed, one.fits) }, all_read held paths files from.1)
+    let read = bytes_read purpose one.bytes in
+    (record { number = one.number; bytes = read; listed = one.listed; small = omega (arith, list_size one.number read file.tokens one.listed, bytes_read_size purpose one.bytes, one.fits) }, all_read purpose held paths files from.1)
 
--- a table that a statement makes
-pub record IsMade (table : CreateTable) : Type 0 where
-  pub statement : List Token
-  pub reads : create_table statement ≡ Some table
-  pub small : length table.columns ≤ LIMIT
-
-table_ok : (tokens : List Token) (table : CreateTable) → length tokens ≤ LIMIT → table_of tokens ≡ Some table → IsMade table
-unfolding table_of
-table_ok tokens table few is =
-    let statement = bind_some (one_statement tokens) _ table is in
-    let size = (statement_size tokens statement.0 statement.1).0 in
-    record { statement = statement.0; reads = statement.2; small = omega (arith, size, few, table_size statement.0 table statement.2) }
-
-tables_ok : (path : List ℕ) (tokens : List Token) (own : List CreateTable) → length tokens ≤ LIMIT → tables_by path tokens ≡ Ok own → AllByRecursion IsMade own
-tables_ok path [] own few is = subst (AllByRecursion IsMade) (sym (no_items own is)) tt
-tables_ok path (t ∷ ts) own few is = by_table (table_of (t ∷ ts)) refl is
-  where
-    by_table : (found : Option CreateTable) → table_of (t ∷ ts) ≡ found → table_by path found ≡ Ok own → AllByRecursion IsMade own
-    by_table None there is = absurd (cc is)
-    by_table (Some table) there is =
-        let same : table ∷ [] ≡ own = cc is in
-        subst (AllByRecursion IsMade) same (table_ok (t ∷ ts) table few there, tt)
-
-all_made : (schema : List SourceFile) (tables : List CreateTable) → AllByRecursion IsRead schema → EachOk tables_in schema tables → AllByRecursion IsMade tables
-all_made [] tables read each = subst (AllByRecursion IsMade) (sym each) tt
-all_made (file ∷ schema) tables read each =
-    subst (AllByRecursion IsMade) (sym each.3)
-    (all_both IsMade each.0 each.1 (tables_ok file.path (without_notes file.tokens) each.0 (omega (arith, notes_size file.tokens, read.0.small)) each.2) (all_made schema each.1 read.1 each.4))
-
--- the table of the catalogue
+-- the catalogue keeps its rules, and its columns have the types whose forms are built
 pub record FromSchema (contents : Contents) : Type 0 where
-  pub table : CreateTable
-  pub made : IsMade table
-  pub holds : contents ≡ only_with table
+  pub kept : IsCatalogue contents
+  pub first : AllByRecursion HasFirstTypes contents.tables
 
-pub schema_from : (path : List ℕ) (schema : List SourceFile) (contents : Contents) → AllByRecursion IsRead schema → catalogue_of path schema ≡ Ok contents → FromSchema contents
-schema_from path schema contents read is =
-    let only = catalogue_ok path (each_judged tables_in schema) contents is in
-    record { table = only.0; made = (all_made schema (only.0 ∷ []) read (each_ok tables_in schema (only.0 ∷ []) only.1)).0; holds = only.2 }
+-- a schema's catalogue is what its files make, where the forms of all its types are built
+catalogue_ok : (path : List ℕ) (made contents : Contents) (findings : List Finding) → catalogue_by path made findings ≡ Ok contents → (made ≡ contents) × (is_built made ≡ true)
+catalogue_ok path made contents [] is = by_built (is_built made) refl is
+  where
+    by_built : (built : Bool) → is_built made ≡ built → ◌≡◌ {A = Result Contents (List Finding)} (if built then Ok made else Err (InConfiguration path 99 [] ∷ [])) (Ok contents) → (made ≡ contents) × (is_built made ≡ true)
+    by_built true there is = (cc is, there)
+    by_built false there is = absurd (cc is)
+catalogue_ok path made contents (finding ∷ findings) is = absurd (cc is)
+
+-- the columns of a catalogue that is built
+built_first : (contents : Contents) → is_built contents ≡ true → AllByRecursion HasFirstTypes contents.tables
+built_first contents is = by_kinds (has_enums contents) (has_domains contents) is
+  where
+    by_kinds : (enums domains : Bool) → (not enums && (not domains && list_all has_first_types contents.tables)) ≡ true → AllByRecursion HasFirstTypes contents.tables
+    by_kinds true domains is = absurd (cc is)
+    by_kinds false true is = absurd (cc is)
+    by_kinds false false is = tables_first contents.tables is
+
+-- what a replay keeps is kept by what is made of a schema
+module _ (replay_keeps : (c : Contents) (statements : List Ddl) → IsCatalogue c → IsCatalogue (replayed c statements).catalogue) where
+  statement_keeps : (path : List ℕ) (so_far : Made) (tokens : List Token) → IsCatalogue so_far.contents → IsCatalogue (after_statement path so_far tokens).contents
+  unfolding replay_of
+  statement_keeps path so_far [] kept = kept
+  statement_keeps path so_far (token ∷ tokens) kept = by_read (read_ddl (token ∷ tokens))
+    where
+      by_read : (read : Result (Option Ddl) Refusal) → IsCatalogue (after_read path so_far read).contents
+      by_read (Ok None) = kept
+      by_read (Ok (Some statement)) = replay_keeps so_far.contents (statement ∷ []) kept
+      by_read (Err refused) = kept
+
+  statements_keep : (path : List ℕ) (so_far : Made) (statements : List (List Token)) → IsCatalogue so_far.contents → IsCatalogue (after_statements path so_far statements).contents
+  statements_keep path so_far [] kept = kept
+  statements_keep path so_far (s ∷ statements) kept = statements_keep path (after_statement path so_far s) statements (statement_keeps path so_far s kept)
+
+  files_keep : (so_far : Made) (files : List SourceFile) → IsCatalogue so_far.contents → IsCatalogue (after_files so_far files).contents
+  files_keep so_far [] kept = kept
+  files_keep so_far (file ∷ files) kept = files_keep (after_file so_far file) files (statements_keep file.path so_far (statements (without_notes file.tokens)) kept)
+
+  pub schema_from : IsCatalogue empty → (path : List ℕ) (schema : List SourceFile) (contents : Contents) → catalogue_of path schema ≡ Ok contents → FromSchema contents
+  schema_from empty_kept path schema contents is =
+      let made_of = all_made schema in
+      let ok = catalogue_ok path made_of.contents contents made_of.findings is in
+      subst FromSchema ok.0 (record { kept = files_keep (made empty []) schema empty_kept; first = built_first made_of.contents ok.1 })
 
 -- the parts of a query's file
 pub record FromText (tokens : List Token) (query : Query) : Type 0 where

@@ -1,10 +1,10 @@
 -- What stands behind the files of an accepted project.
-use Rattle.std.proofs.Common.{◌≡◌, ◌≤◌, ℕ, ◌+◌, Bool, true, false, if◌then◌else◌, List, [], ◌∷◌, ◌++◌, length, drop, Option, None, Some, Result, Ok, Err, refl, sym, ◌∙◌, ap, subst, inl, inr, arith, nat_le}
+use Rattle.std.proofs.Common.{◌≡◌, ◌≤◌, ℕ, ◌+◌, false, List, [], ◌∷◌, ◌++◌, length, drop, Option, None, Some, Result, Ok, Err, refl, sym, ◌∙◌, ap, subst, inl, inr, arith, nat_le}
 use Rattle.std.specs.List.{AllZip}
 use Rattle.std.specs.Option.{option_map, option_map_or, option_or}
 use Rattle.std.proofs.lemmas.Bool.{cases_Bool, leb-true}
 use Rattle.std.proofs.lemmas.Option.{same_Some}
-use Rattle.sq_base.specs.Files.{bytes_at, is_file, is_folder}
+use Rattle.sq_base.specs.Files.{bytes_at}
 use Rattle.sq_base.specs.declared.file.File.{File}
 use Rattle.sq_base.specs.declared.refusal.Refusal.{Refusal}
 use Rattle.sq_catalog.specs.Contents.{Contents}
@@ -22,13 +22,14 @@ use Rattle.sq_run.specs.declared.configuration.Block.{Block}
 use Rattle.sq_run.specs.declared.configuration.Configuration.{Configuration as Configured}
 use Rattle.sq_run.specs.declared.configuration.Entry.{Entry}
 use Rattle.sq_run.specs.declared.configuration.OptionPair.{OptionPair}
+use Rattle.sq_run.specs.declared.entries.Purpose.{Purpose}
+use Rattle.sq_run.specs.declared.entries.Purpose.TheVariants.{Schema, Queries}
 use Rattle.sq_run.specs.declared.outputs.Output.{Output}
 use Rattle.sq_run.specs.declared.read.Role.{Role}
 use Rattle.sq_run.specs.declared.read.Role.TheVariants.{Configuration, Source}
 use Rattle.sq_run.specs.declared.read.TheConstants.{LIMIT}
 use Rattle.sq_run.specs.declared.sources.SourceFile.{SourceFile}
 use Rattle.sq_run.specs.declared.sources.TheConstants.{MOST_FILES}
-use Rattle.sq_run.specs.declared.statements.CreateTable.{CreateTable}
 use Rattle.sq_run.specs.Asked.{nothing_asked, gathered, each_judged}
 use Rattle.sq_run.specs.Headline.{IsSource}
 use Rattle.serde_json.specs.Data.{Data}
@@ -39,10 +40,10 @@ use Rattle.sq_run.specs.Outs.{all_entries, same_out, other_writer}
 use Rattle.sq_run.specs.Shape.{bad_key}
 use Rattle.sq_run.specs.Paths.{folder_of}
 use Rattle.sq_run.specs.Judged.{judged}
-use Rattle.sq_run.specs.Project.{not_yet, checked, whole_file, wanted, wanted_file, unless_more, counted, with_tokens, source, sources, output_by, output_of_entry, configured_by, configured, configuration_at, catalogue_from, catalogue_of, models_of, file_with, file_by, file_of, declared_in, output_files, written, block_files, all_files, requested}
+use Rattle.sq_run.specs.Project.{checked, whole_file, listed, unless_more, counted, with_tokens, source, sources, output_by, output_of_entry, configured_by, configured, configuration_at, catalogue_of, models_of, file_with, file_by, file_of, declared_in, output_files, written, block_files, all_files, requested}
 use Rattle.sq_run.specs.Query.{query_of}
+use Rattle.sq_run.specs.Sources.{found_at, found_for, bytes_read}
 use Rattle.sq_run.proofs.OkSteps.{and_then_ok, Gathered, gathered_ok, EachOk, each_ok}
-use Rattle.sq_run.proofs.TableMade.{only_table, only_with}
 
 same_answer : {A : Type 0} (r : Result A (List Finding)) (x y : A) → r ≡ Ok x → r ≡ Ok y → x ≡ y
 same_answer r x y one other = cc (one, other)
@@ -60,30 +61,32 @@ held_ok role path bytes (Some b) is =
     (ap Some whole.0, omega (arith, ap length whole.0, whole.1))
 
 -- a source that was read is held, and not too long
-pub record FromSource (held : List File) (path : List ℕ) (file : SourceFile) : Type 0 where
+pub record FromSource (purpose : Purpose) (held : List File) (path : List ℕ) (file : SourceFile) : Type 0 where
   pub bytes : List ℕ
   pub number : ℕ
   pub at_path : file.path ≡ path
   pub source_held : bytes_at held path ≡ Some bytes
   pub fits : length bytes ≤ LIMIT
-  pub listed : token_list number bytes ≡ Ok file.tokens
+  pub listed : token_list number (bytes_read purpose bytes) ≡ Ok file.tokens
 
-pub is_source : (held : List File) (path : List ℕ) (file : SourceFile) → FromSource held path file → IsSource held path file
-is_source held path file from = record { bytes = from.bytes; number = from.number; at_path = from.at_path; source_held = from.source_held; listed = from.listed }
+pub is_source : (purpose : Purpose) (held : List File) (path : List ℕ) (file : SourceFile) → FromSource purpose held path file → IsSource purpose held path file
+is_source purpose held path file from = record { bytes = from.bytes; number = from.number; at_path = from.at_path; source_held = from.source_held; listed = from.listed }
 
-wanted_ok : (path : List ℕ) (held : List File) (own : List (List ℕ)) → wanted path held ≡ Some (Ok own) → own ≡ path ∷ []
-wanted_ok path held own is = by_file (is_file held path) (is_folder held path) is
-  where
-    by_file : (file folder : Bool) → (if file then Some (Ok (path ∷ [])) else (if folder then Some (Err (not_yet Source path ∷ [])) else None)) ≡ Some (Ok own) → own ≡ path ∷ []
-    by_file true folder is = sym (same_answer _ _ _ refl (same_Some _ _ is))
-    by_file false true is = absurd (cc (same_Some _ _ is))
-    by_file false false is = absurd (cc is)
+-- the sources of a key are those that its paths stand for
+pub record FromSources (purpose : Purpose) (held : List File) (paths : List (List ℕ)) (files : List SourceFile) : Type 0 where
+  pub found : List (List ℕ)
+  pub stand_for : found_for purpose paths held ≡ Some found
+  pub from : AllZip (FromSource purpose held) found files
 
--- the paths that are listed are those that are found
-listed_are : (held : List File) (n : ℕ) (paths found : List (List ℕ)) → Gathered (λ _ path. wanted_file path) held n paths found → found ≡ paths
-listed_are held n [] found is = is
-listed_are held n (path ∷ paths) found each =
-    each.3 ∙ ap (λ (own : List (List ℕ)). own ++ each.1) (wanted_ok path held each.0 each.2) ∙ ap (λ (later : List (List ℕ)). path ∷ later) (listed_are held (n + 1) paths each.1 each.4)
+found_ok : (found : Option (List (List ℕ))) (own : List (List ℕ)) → ◌≡◌ {A = Option (Result (List (List ℕ)) (List Finding))} (option_map (λ paths. Ok paths) found) (Some (Ok own)) → found ≡ Some own
+found_ok None own is = absurd (cc is)
+found_ok (Some paths) own is = ap Some (same_answer _ _ _ refl (same_Some _ _ is))
+
+-- the files that are found are those that the paths stand for
+listed_are : (purpose : Purpose) (held : List File) (n : ℕ) (paths found : List (List ℕ)) → Gathered (λ _ path. listed purpose path) held n paths found → found_for purpose paths held ≡ Some found
+listed_are purpose held n [] found is = ap Some (sym is)
+listed_are purpose held n (path ∷ paths) found each =
+    rw (found_ok (found_at purpose path held) each.0 each.2, listed_are purpose held (n + 1) paths each.1 each.4) (ap Some (sym each.3))
 
 counted_ok : (found few : List (List ℕ)) → counted found ≡ Ok few → few ≡ found
 counted_ok found few is = by_more (drop MOST_FILES found) is
@@ -92,30 +95,35 @@ counted_ok found few is = by_more (drop MOST_FILES found) is
     by_more [] is = sym (same_answer _ _ _ refl is)
     by_more (path ∷ more) is = absurd (cc is)
 
-source_ok : (n : ℕ) (path : List ℕ) (held : List File) (own : List SourceFile) → (source n path held).answer ≡ Some (Ok own) → (file : SourceFile) × (own ≡ file ∷ []) × FromSource held path file
-source_ok n path held own is =
+source_ok : (purpose : Purpose) (n : ℕ) (path : List ℕ) (held : List File) (own : List SourceFile) → (source purpose n path held).answer ≡ Some (Ok own) → (file : SourceFile) × (own ≡ file ∷ []) × FromSource purpose held path file
+source_ok purpose n path held own is =
     let read = and_then_ok (whole_file Source path held) _ own is in
     let whole = held_ok Source path read.0 (bytes_at held path) read.1 in
-    by_tokens read.0 whole.0 whole.1 (token_list n read.0) refl (same_Some _ _ read.2)
+    by_tokens read.0 whole.0 whole.1 (token_list n (bytes_read purpose read.0)) refl (same_Some _ _ read.2)
   where
-    by_tokens : (bytes : List ℕ) → bytes_at held path ≡ Some bytes → length bytes ≤ LIMIT → (list : Result (List Token) Refusal) → token_list n bytes ≡ list → with_tokens path list ≡ Ok own → (file : SourceFile) × (own ≡ file ∷ []) × FromSource held path file
+    by_tokens : (bytes : List ℕ) → bytes_at held path ≡ Some bytes → length bytes ≤ LIMIT → (list : Result (List Token) Refusal) → token_list n (bytes_read purpose bytes) ≡ list → with_tokens path list ≡ Ok own
+        → (file : SourceFile) × (own ≡ file ∷ []) × FromSource purpose held path file
     by_tokens bytes there fits (Err refusal) listed is = absurd (cc is)
     by_tokens bytes there fits (Ok tokens) listed is = (record { path = path; tokens = tokens }, sym (same_answer _ _ _ refl is), record { bytes = bytes; number = n; at_path = refl; source_held = there; fits = fits; listed = listed })
 
-read_are : (held : List File) (n : ℕ) (paths : List (List ℕ)) (files : List SourceFile) → Gathered source held n paths files → AllZip (FromSource held) paths files
-read_are held n [] files is = subst (AllZip (FromSource held) []) (sym is) tt
-read_are held n (path ∷ paths) files each =
-    let first = source_ok n path held each.0 each.2 in
+read_are : (purpose : Purpose) (held : List File) (n : ℕ) (paths : List (List ℕ)) (files : List SourceFile) → Gathered (source purpose) held n paths files → AllZip (FromSource purpose held) paths files
+read_are purpose held n [] files is = subst (AllZip (FromSource purpose held) []) (sym is) tt
+read_are purpose held n (path ∷ paths) files each =
+    let first = source_ok purpose n path held each.0 each.2 in
     let all : files ≡ first.0 ∷ each.1 = each.3 ∙ ap (λ (own : List SourceFile). own ++ each.1) first.1 in
-    subst (AllZip (FromSource held) (path ∷ paths)) (sym all) (first.2, read_are held (n + 1) paths each.1 each.4)
+    subst (AllZip (FromSource purpose held) (path ∷ paths)) (sym all) (first.2, read_are purpose held (n + 1) paths each.1 each.4)
 
 -- the sources of a key
-pub sources_ok : (held : List File) (paths : List (List ℕ)) (files : List SourceFile) → (sources paths held).answer ≡ Some (Ok files) → AllZip (FromSource held) paths files
-sources_ok held paths files is =
-    let found = and_then_ok (gathered (λ _ path. wanted_file path) 0 paths held) _ files is in
+pub sources_ok : (purpose : Purpose) (held : List File) (paths : List (List ℕ)) (files : List SourceFile) → (sources purpose paths held).answer ≡ Some (Ok files) → FromSources purpose held paths files
+sources_ok purpose held paths files is =
+    let found = and_then_ok (gathered (λ _ path. listed purpose path) 0 paths held) _ files is in
     let few = and_then_ok (nothing_asked (counted found.0)) _ files found.2 in
-    let same = counted_ok found.0 few.0 (same_Some _ _ few.1) ∙ listed_are held 0 paths found.0 (gathered_ok (λ _ path. wanted_file path) held 0 paths found.0 found.1) in
-    read_are held 0 paths files (gathered_ok source held 0 paths files (subst (λ (ps : List (List ℕ)). (gathered source 0 ps held).answer ≡ Some (Ok files)) same few.2))
+    let stand_for = listed_are purpose held 0 paths found.0 (gathered_ok (λ _ path. listed purpose path) held 0 paths found.0 found.1) in
+    record {
+      found = few.0;
+      stand_for = stand_for ∙ ap Some (sym (counted_ok found.0 few.0 (same_Some _ _ few.1)));
+      from = read_are purpose held 0 few.0 files (gathered_ok (source purpose) held 0 few.0 files few.2);
+    }
 
 -- the output of an entry
 pub record FromEntry (entry : Entry) (output : Output) : Type 0 where
@@ -132,13 +140,6 @@ entries_ok path (entry ∷ entries) outputs each =
     let first = entry_ok path entry entry.options.pairs each.0 each.2 in
     let all : outputs ≡ first.0 ∷ each.1 = each.3 ∙ ap (λ (own : List Output). own ++ each.1) first.1 in
     subst (AllZip FromEntry (entry ∷ entries)) (sym all) (first.2, entries_ok path entries each.1 each.4)
-
--- the only table of a schema
-pub catalogue_ok : (path : List ℕ) (tables : Result (List CreateTable) (List Finding)) (contents : Contents) → catalogue_from path tables ≡ Ok contents → (table : CreateTable) × (tables ≡ Ok (table ∷ [])) × (contents ≡ only_with table)
-catalogue_ok path (Err findings) contents is = absurd (cc is)
-catalogue_ok path (Ok []) contents is = absurd (cc is)
-catalogue_ok path (Ok (table ∷ [])) contents is = (table, refl, only_table path table contents is)
-catalogue_ok path (Ok (table ∷ next ∷ tables)) contents is = absurd (cc is)
 
 -- what a source of queries was judged to be
 pub record FromQuery (contents : Contents) (file : SourceFile) (written : QueryFile) : Type 0 where
@@ -179,11 +180,11 @@ pub record FromBlock (path : List ℕ) (block : Block) (held files : List File) 
   pub has_outputs : each_judged (output_of_entry path) block.entries ≡ Ok outputs
   pub entries : AllZip FromEntry block.entries outputs
   pub schema : List SourceFile
-  pub schema_held : AllZip (FromSource held) block.schema schema
+  pub schema_held : FromSources Schema held block.schema schema
   pub contents : Contents
   pub replays : catalogue_of path schema ≡ Ok contents
   pub queries : List SourceFile
-  pub queries_held : AllZip (FromSource held) block.queries queries
+  pub queries_held : FromSources Queries held block.queries queries
   pub declared : List QueryFile
   pub judges : AllZip (FromQuery contents) queries declared
   pub laid_out : EachOk (written path (models_of contents) declared) outputs files
@@ -191,20 +192,20 @@ pub record FromBlock (path : List ℕ) (block : Block) (held files : List File) 
 pub block_from : (path : List ℕ) (block : Block) (held files : List File) → (block_files path block held).answer ≡ Some (Ok files) → FromBlock path block held files
 block_from path block held files is =
     let a = and_then_ok (nothing_asked (each_judged (output_of_entry path) block.entries)) _ files is in
-    let b = and_then_ok (sources block.schema held) _ files a.2 in
+    let b = and_then_ok (sources Schema block.schema held) _ files a.2 in
     let c = and_then_ok (nothing_asked (catalogue_of path b.0)) _ files b.2 in
-    let d = and_then_ok (sources block.queries held) _ files c.2 in
+    let d = and_then_ok (sources Queries block.queries held) _ files c.2 in
     let e = and_then_ok (nothing_asked (each_judged (declared_in c.0) d.0)) _ files d.2 in
     record {
       outputs = a.0;
       has_outputs = same_Some _ _ a.1;
       entries = entries_ok path block.entries a.0 (each_ok (output_of_entry path) block.entries a.0 (same_Some _ _ a.1));
       schema = b.0;
-      schema_held = sources_ok held block.schema b.0 b.1;
+      schema_held = sources_ok Schema held block.schema b.0 b.1;
       contents = c.0;
       replays = same_Some _ _ c.1;
       queries = d.0;
-      queries_held = sources_ok held block.queries d.0 d.1;
+      queries_held = sources_ok Queries held block.queries d.0 d.1;
       declared = e.0;
       judges = queries_ok c.0 d.0 e.0 (each_ok (declared_in c.0) d.0 e.0 (same_Some _ _ e.1));
       laid_out = each_ok (written path (models_of c.0) e.0) a.0 files (same_Some _ _ e.2);

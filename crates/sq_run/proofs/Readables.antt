@@ -1,33 +1,52 @@
--- What is written for a judged query of the first forms can be read again.
-use Rattle.std.proofs.Common.{◌≡◌, ◌⊎◌, ℕ, ◌||◌, ◌==◌, Bool, true, false, List, [], ◌∷◌, ◌++◌, Option, None, Some, refl, inl, inr}
+-- What is written for tables and judged queries of the first types can be read again.
+use Rattle.std.proofs.Common.{◌≡◌, ℕ, ◌||◌, ◌==◌, Bool, true, false, List, [], ◌∷◌, ◌++◌, Option, None, Some, refl, sym, ◌∙◌, inl, inr, slice_get}
 use Rattle.std.specs.Prelude.{codes}
-use Rattle.std.specs.List.{AllByRecursion, list_all, list_any}
+use Rattle.std.specs.List.{AllByRecursion, list_all, list_any, flat_map}
 use Rattle.std.specs.Char.{is_ascii_alphanumeric}
 use Rattle.std.proofs.lemmas.Bool.{cases_Bool}
+use Rattle.std.proofs.lemmas.List.Folds.{list_any-append}
 use Rattle.sq_base.specs.declared.types.PgType.{PgType}
+use Rattle.sq_base.specs.declared.types.Scalar.{Scalar}
+use Rattle.sq_core.specs.declared.declaration.ModelDecl.{ModelDecl}
 use Rattle.sq_core.specs.declared.signature.Output.{Output}
 use Rattle.sq_core.specs.declared.signature.ShownField.{ShownField}
-use Rattle.sq_core.specs.Forms.{printed_form}
+use Rattle.sq_core.specs.Forms.{printed_form, scalar_form, nullable_scalar_form}
 use Rattle.sq_core.specs.Identifiers.{numbered, pascal}
-use Rattle.sq_core.specs.Layout.{forms, is_of_sql, sql_import, row_forms, row_type}
+use Rattle.sq_core.specs.Layout.{forms, is_of_sql, sql_import, model_forms, row_forms, row_type}
 use Rattle.sq_core.specs.Signature.{field, fields, fields_after, shown_columns}
 use Rattle.sq_core.specs.Words.{is_word}
 use Rattle.sq_reader.specs.Items.{fields_stand, type_stands}
 use Rattle.sq_reader.specs.Parts.{allows}
 use Rattle.sq_reader.specs.Readable.{is_run, is_field, own_types_stand}
 use Rattle.sq_reader.specs.declared.parts.Class.TheVariants.{Word, Spelling}
-use Rattle.sq_run.proofs.FirstTypes.{IsFirst, ShowsFirst}
+use Rattle.sq_run.proofs.FirstTypes.{IsFirst, IsFirstScalar, ShowsFirst, at_place}
 use Rattle.sq_run.proofs.Models.{both, either_none}
 
--- the forms of integer and text
+-- the forms of these types, of what is never null and of what may be null
+abbrev pub first_forms : List (List ℕ)
+first_forms =
+    codes "int16" ∷ codes "int32" ∷ codes "int64" ∷ codes "bool" ∷ codes "string" ∷ codes "sql.NullInt16" ∷ codes "sql.NullInt32" ∷ codes "sql.NullInt64" ∷ codes "sql.NullBool" ∷ codes "sql.NullString" ∷ []
+
 abbrev pub IsFirstForm : List ℕ → Type 0
-IsFirstForm of = ((of ≡ codes "int32") ⊎ (of ≡ codes "string")) ⊎ ((of ≡ codes "sql.NullInt32") ⊎ (of ≡ codes "sql.NullString"))
+IsFirstForm of = (at : ℕ) × (slice_get first_forms at ≡ Some of)
+
+scalar_form_of : (of : Scalar) → IsFirstScalar of → IsFirstForm (scalar_form of)
+scalar_form_of of (inl is) = (0, rw is refl)
+scalar_form_of of (inr (inl is)) = (1, rw is refl)
+scalar_form_of of (inr (inr (inl is))) = (2, rw is refl)
+scalar_form_of of (inr (inr (inr (inl is)))) = (3, rw is refl)
+scalar_form_of of (inr (inr (inr (inr is)))) = (4, rw is refl)
+
+nullable_form_of : (of : Scalar) → IsFirstScalar of → IsFirstForm (nullable_scalar_form of)
+nullable_form_of of (inl is) = (5, rw is refl)
+nullable_form_of of (inr (inl is)) = (6, rw is refl)
+nullable_form_of of (inr (inr (inl is))) = (7, rw is refl)
+nullable_form_of of (inr (inr (inr (inl is)))) = (8, rw is refl)
+nullable_form_of of (inr (inr (inr (inr is)))) = (9, rw is refl)
 
 form_of : (of : PgType) (nullable : Bool) → IsFirst of → IsFirstForm (printed_form of nullable)
-form_of of true (inl is) = inr (inl (rw is refl))
-form_of of true (inr is) = inr (inr (rw is refl))
-form_of of false (inl is) = inl (inl (rw is refl))
-form_of of false (inr is) = inl (inr (rw is refl))
+form_of of true is = rw is.no_array (nullable_form_of of.scalar is.first)
+form_of of false is = rw is.no_array (scalar_form_of of.scalar is.first)
 
 abbrev pub HasFirstForm : ShownField → Type 0
 HasFirstForm field = IsFirstForm field.of
@@ -63,10 +82,7 @@ word_spelled [] is = absurd (cc is)
 word_spelled (b ∷ xs) is = spells (b ∷ xs) is
 
 pub form_spelled : (of : List ℕ) → IsFirstForm of → is_run Spelling of ≡ true
-form_spelled of (inl (inl is)) = rw is refl
-form_spelled of (inl (inr is)) = rw is refl
-form_spelled of (inr (inl is)) = rw is refl
-form_spelled of (inr (inr is)) = rw is refl
+form_spelled of there = at_place (λ (form : List ℕ). is_run Spelling form ≡ true) first_forms there.0 of (refl, (refl, (refl, (refl, (refl, (refl, (refl, (refl, (refl, (refl, tt)))))))))) there.1
 
 -- a word by its own definition is a run of word bytes
 pub word_run : (xs : List ℕ) → is_word xs ≡ true → is_run Word xs ≡ true
@@ -86,17 +102,18 @@ fields_spelled (f ∷ fs) all words =
 
 -- where database/sql is imported, every first form's package is
 with_sql : (of : List ℕ) → IsFirstForm of → (type_stands (codes "database/sql" ∷ []) of ≡ true) × (type_stands (codes "context" ∷ codes "database/sql" ∷ []) of ≡ true)
-with_sql of (inl (inl is)) = rw is (refl, refl)
-with_sql of (inl (inr is)) = rw is (refl, refl)
-with_sql of (inr (inl is)) = rw is (refl, refl)
-with_sql of (inr (inr is)) = rw is (refl, refl)
+with_sql of there =
+    at_place (λ (form : List ℕ). (type_stands (codes "database/sql" ∷ []) form ≡ true) × (type_stands (codes "context" ∷ codes "database/sql" ∷ []) form ≡ true)) first_forms there.0 of
+    ((refl, refl), ((refl, refl), ((refl, refl), ((refl, refl), ((refl, refl), ((refl, refl), ((refl, refl), ((refl, refl), ((refl, refl), ((refl, refl), tt)))))))))) there.1
 
 -- and a form that is no type of sql needs no import
-without_sql : (of : List ℕ) → IsFirstForm of → is_of_sql of ≡ false → (type_stands [] of ≡ true) × (type_stands (codes "context" ∷ []) of ≡ true)
-without_sql of (inl (inl is)) none = rw is (refl, refl)
-without_sql of (inl (inr is)) none = rw is (refl, refl)
-without_sql of (inr (inl is)) none = absurd (cc (rw is at none))
-without_sql of (inr (inr is)) none = absurd (cc (rw is at none))
+abbrev StandsAlone : List ℕ → Type 0
+StandsAlone form = is_of_sql form ≡ false → (type_stands [] form ≡ true) × (type_stands (codes "context" ∷ []) form ≡ true)
+
+without_sql : (of : List ℕ) → IsFirstForm of → StandsAlone of
+without_sql of there = at_place StandsAlone first_forms there.0 of
+    ((λ none. (refl, refl)), ((λ none. (refl, refl)), ((λ none. (refl, refl)), ((λ none. (refl, refl)), ((λ none. (refl, refl)), ((λ some. absurd (cc some)), ((λ some. absurd (cc some)), ((λ some. absurd (cc some)), ((λ some. absurd (cc some)), ((λ some. absurd (cc some)), tt))))))))))
+    there.1
 
 all_with : (fs : List ShownField) → AllByRecursion HasFirstForm fs → (fields_stand (codes "database/sql" ∷ []) fs ≡ true) × (fields_stand (codes "context" ∷ codes "database/sql" ∷ []) fs ≡ true)
 all_with [] all = (refl, refl)
@@ -113,12 +130,25 @@ all_without (f ∷ fs) all none =
     let later = all_without fs all.1 split.1 in
     (rw here.0 later.0, rw here.1 later.1)
 
--- the fields of a model stand over the imports of models.go
-pub model_stands : (fs : List ShownField) → AllByRecursion HasFirstForm fs → fields_stand (sql_import (forms fs)) fs ≡ true
-model_stands fs all = elim (cases_Bool (list_any is_of_sql (forms fs))) [
-  | inl some ↦ rw some (all_with fs all).0
-  | inr none ↦ rw none (all_without fs all none).0
+-- the fields of each model stand over the imports of models.go
+abbrev pub HasFirstForms : ModelDecl → Type 0
+HasFirstForms model = AllByRecursion HasFirstForm (fields model.columns)
+
+pub models_stand : (models : List ModelDecl) → AllByRecursion HasFirstForms models → AllByRecursion (λ (model : ModelDecl). fields_stand (sql_import (flat_map model_forms models)) (fields model.columns) ≡ true) models
+models_stand models all = elim (cases_Bool (list_any is_of_sql (flat_map model_forms models))) [
+  | inl some ↦ rw some (each_with models all)
+  | inr none ↦ rw none (each_without models all none)
 ]
+  where
+    each_with : (ms : List ModelDecl) → AllByRecursion HasFirstForms ms → AllByRecursion (λ (model : ModelDecl). fields_stand (codes "database/sql" ∷ []) (fields model.columns) ≡ true) ms
+    each_with [] each = tt
+    each_with (m ∷ ms) each = ((all_with (fields m.columns) each.0).0, each_with ms each.1)
+
+    each_without : (ms : List ModelDecl) → AllByRecursion HasFirstForms ms → list_any is_of_sql (flat_map model_forms ms) ≡ false → AllByRecursion (λ (model : ModelDecl). fields_stand [] (fields model.columns) ≡ true) ms
+    each_without [] each none = tt
+    each_without (m ∷ ms) each none =
+        let split = either_none (list_any is_of_sql (model_forms m)) (list_any is_of_sql (flat_map model_forms ms)) (sym (list_any-append is_of_sql (model_forms m) (flat_map model_forms ms)) ∙ none) in
+        ((all_without (fields m.columns) each.0 split.0).0, each_without ms each.1 split.1)
 
 -- and those of a query over those of its file
 query_stands : (fs : List ShownField) → AllByRecursion HasFirstForm fs → fields_stand (codes "context" ∷ sql_import (forms fs)) fs ≡ true

@@ -1,11 +1,13 @@
 -- What the files of a block say.
 use Rattle.std.proofs.Common.{◌≡◌, ◌≢◌, ◌<◌, ◌^◌, ℕ, zero, suc, ◌&&◌, ◌==◌, true, false, List, [], ◌∷◌, ◌++◌, length, map, take, drop, nat_eq, nat_le, Option, None, Some, Ok, refl, sym, ◌∙◌, ap, subst, inl, inr, arith, slice_get}
-use Rattle.std.specs.Prelude.{codes}
+use Rattle.std.specs.Prelude.{codes, find}
+use Rattle.std.specs.Option.{option_map}
 use Rattle.std.specs.List.{AllByRecursion, AllZip, list_all, list_any, flat_map}
-use Rattle.std.proofs.lemmas.Bool.{cases_Bool, eqb-true}
+use Rattle.std.proofs.lemmas.Bool.{cases_Bool, eq-eqb, eqb-true}
 use Rattle.std.proofs.lemmas.List.{append-nil}
 use Rattle.std.proofs.lemmas.Option.{same_Some}
 use Rattle.sq_catalog.specs.Contents.{Contents}
+use Rattle.sq_catalog.specs.Catalogue.{empty}
 use Rattle.sq_catalog.specs.declared.table.Column.{Column as TableColumn}
 use Rattle.sq_catalog.specs.declared.table.Table.{Table}
 use Rattle.sq_core.specs.Answer.{Answer, Gives, Fault, Stuck, AnswerKeeps}
@@ -26,15 +28,17 @@ use Rattle.sq_core.specs.declared.signature.Output.{Output as OutputColumn}
 use Rattle.sq_core.specs.declared.signature.Param.{Param}
 use Rattle.sq_core.specs.declared.signature.Shown.{Shown}
 use Rattle.sq_core.specs.declared.signature.ShownField.{ShownField}
+use Rattle.sq_migrate.specs.Kept.{IsCatalogue, IsTable, table_ids, are_apart}
+use Rattle.sq_migrate.specs.Replay.{replayed}
 use Rattle.sq_reader.specs.Readable.{IsReadable, IsReadableModel, IsReadableQuery, IsReadableFile, model_with, is_run}
+use Rattle.sq_reader.specs.Items.{fields_stand}
 use Rattle.sq_reader.specs.Reading.{Reads}
 use Rattle.sq_reader.specs.declared.parts.Class.TheVariants.{Word}
 use Rattle.sq_run.specs.declared.judge.Judged.{Judged}
 use Rattle.sq_run.specs.declared.query.Query.{Query}
 use Rattle.sq_run.specs.declared.sources.SourceFile.{SourceFile}
-use Rattle.sq_run.specs.declared.statements.CreateTable.{CreateTable}
 use Rattle.sq_run.specs.Headline.{ReturnsFit, RunsAsPrinted, SaysQuery}
-use Rattle.sq_run.specs.Judged.{judged, judged_names, output_of, model_used, are_all_columns, have_names}
+use Rattle.sq_run.specs.Judged.{judged, output_of, model_used, are_all_columns, have_names}
 use Rattle.sq_run.specs.Project.{models_of, model_of, file_name, declared}
 use Rattle.sq_run.specs.Names.{is_identifier}
 use Rattle.sq_run.specs.Query.{query_of}
@@ -42,19 +46,21 @@ use Rattle.sq_lexer.specs.Printed.{spelling, printed, AreSimple}
 use Rattle.sq_lexer.specs.Respelling.{ListedAs}
 use Rattle.sq_lexer.specs.TokenList.{token_list}
 use Rattle.sq_syntax.specs.Tokens.{has_mark}
+use Rattle.sq_syntax.specs.declared.ddl.Ddl.{Ddl}
 use Rattle.sq_syntax.specs.declared.token.Token.{Token}
-use Rattle.sq_run.proofs.FirstTypes.{HasFirst, ShowsFirst, IsFirstTable, table_first, names_show, columns_print}
+use Rattle.sq_run.proofs.FirstTypes.{HasFirst, HasFirstTypes, ShowsFirst, at_place, names_show, columns_print}
 use Rattle.sq_run.proofs.Models.{ComesFrom, names_size, names_come, some_outputs, all_outputs, both}
 use Rattle.sq_run.proofs.Placeless.{same_judged}
 use Rattle.sq_run.proofs.FileNames.{IsApart, files_apart, is_slash, no_last_part, no_slash}
-use Rattle.sq_run.proofs.Origins.{IsRead, IsMade, FromSchema, FromText, FromTable, query_from, table_from}
+use Rattle.sq_run.proofs.Origins.{IsRead, FromSchema, FromText, FromTable, query_from, table_from}
 use Rattle.sq_run.proofs.Plans.{FromQuery}
-use Rattle.sq_run.proofs.Readables.{columns_form, all_fields_form, fields_spelled, model_stands, own_stands, row_spelled, word_run}
+use Rattle.sq_run.proofs.Readables.{HasFirstForms, columns_form, all_fields_form, fields_spelled, models_stand, own_stands, row_spelled, word_run}
 use Rattle.sq_run.proofs.Simple.{query_simple, query_unmarked}
-use Rattle.sq_run.proofs.TableMade.{only_with}
 
--- what is known of every core and every layout
+-- what is known of every replay, every core and every layout
 pub record Laws : Type 0 where
+  pub begins : IsCatalogue empty
+  pub replays : (contents : Contents) (statements : List Ddl) → IsCatalogue contents → IsCatalogue (replayed contents statements).catalogue
   pub sound : (contents : Contents) (params : List Param) (core : CoreStatement) (outputs : List OutputColumn) → IsTyped contents core outputs → NeverStuck contents params core outputs
   pub typed : (contents : Contents) (place : ℕ) (nodes : List Node) (outputs : List OutputColumn) → ShowsColumns contents place nodes outputs → IsTyped contents (select_core place nodes) outputs
   pub read : (package_name : List ℕ) (models : List ModelDecl) (files : List QueryFile) → IsReadable package_name models files → Reads (layout.layout package_name models files) (map (λ (query : QuerySig). shown query.signature) (layout.queries_of files))
@@ -79,11 +85,6 @@ runs_as_printed : (contents : Contents) (core : CoreStatement) (outputs : List O
 runs_as_printed contents core outputs columns never prints database arguments fits bound oracle =
     answer_fits contents outputs columns (run Go contents [] core database arguments oracle) prints (never.answers_fit database arguments fits bound oracle)
 
--- the only table of a catalogue with one
-only_table : (table found : Table) (place : ℕ) → slice_get (table ∷ []) place ≡ Some found → found ≡ table
-only_table table found zero is = sym (same_Some _ _ is)
-only_table table found (suc place) is = absurd (cc is)
-
 identifier_word : (name : List ℕ) → is_identifier name ≡ true → is_word name ≡ true
 identifier_word [] is = absurd (cc is)
 identifier_word (b ∷ name) is = (both _ _ is).1
@@ -102,26 +103,44 @@ several_shown [] several = absurd (cc several)
 several_shown (output ∷ []) several = absurd (cc several)
 several_shown (output ∷ second ∷ outputs) several = refl
 
--- the identifier of a model that is used is that of the only model
-model_named : (model : ModelDecl) (id : Option ℕ) (identifier : List ℕ) → layout.model_of (model ∷ []) id ≡ Some identifier → layout.model_name model ≡ identifier
-model_named model None identifier is = absurd (cc is)
-model_named model (Some wanted) identifier is = elim (cases_Bool (nat_eq model.id wanted)) [
-  | inl same ↦ same_Some _ _ (rw same at is)
-  | inr other ↦ absurd (cc (rw other at is))
+-- the identifier of a model that is used is that of some model
+model_named : (models : List ModelDecl) (id : Option ℕ) (identifier : List ℕ) → layout.model_of models id ≡ Some identifier → (model : ModelDecl) × (layout.model_name model ≡ identifier)
+model_named models None identifier is = absurd (cc is)
+model_named models (Some wanted) identifier is = by_found (find (λ (model : ModelDecl). nat_eq model.id wanted) models) is
+  where
+    by_found : (found : Option ModelDecl) → option_map layout.model_name found ≡ Some identifier → (model : ModelDecl) × (layout.model_name model ≡ identifier)
+    by_found None is = absurd (cc is)
+    by_found (Some model) is = (model, same_Some _ _ is)
+
+-- an id that is another than all of these is another than that at a place
+other_there : (id : ℕ) (tables : List Table) (place : ℕ) (table : Table) → AllByRecursion (λ other. id ≢ other) (table_ids tables) → slice_get tables place ≡ Some table → id ≢ table.id
+other_there id [] place table all there = absurd (cc there)
+other_there id (t ∷ tables) zero table all there = λ same. all.0 (same ∙ ap (λ (x : Table). x.id) (sym (same_Some _ _ there)))
+other_there id (t ∷ tables) (suc place) table all there = other_there id tables place table all.1 there
+
+-- the model that is found by the id of a table is that of the table
+own_model : (tables : List Table) (place : ℕ) (table : Table) → are_apart (table_ids tables) → slice_get tables place ≡ Some table → find (λ (model : ModelDecl). nat_eq model.id table.id) (map model_of tables) ≡ Some (model_of table)
+own_model [] place table apart there = absurd (cc there)
+own_model (t ∷ tables) zero table apart there =
+    subst (λ (x : Table). find (λ (model : ModelDecl). nat_eq model.id x.id) (map model_of (t ∷ tables)) ≡ Some (model_of x)) (same_Some _ _ there)
+    (rw (eq-eqb t.id t.id refl) refl)
+own_model (t ∷ tables) (suc place) table apart there = elim (cases_Bool (nat_eq t.id table.id)) [
+  | inl same ↦ absurd (other_there t.id tables place table apart.0 there (eqb-true t.id table.id same))
+  | inr other ↦ rw other (own_model tables place table apart.1 there)
 ]
 
--- the only model is the one that is found
-model_found : (model found : ModelDecl) (id : Option ℕ) → model_with (model ∷ []) id ≡ Some found → (found ≡ model) × (layout.model_of (model ∷ []) id ≡ Some (layout.model_name model))
-model_found model found None is = absurd (cc is)
-model_found model found (Some wanted) is = elim (cases_Bool (nat_eq model.id wanted)) [
-  | inl same ↦ (sym (same_Some _ _ (rw same at is)), rw same refl)
-  | inr other ↦ absurd (cc (rw other at is))
-]
+-- a model that is used is that of the table, for all its columns
+record UsesOwn (table : Table) (outputs : List OutputColumn) (other : ModelDecl) : Type 0 where
+  several : nat_le 2 (length outputs) ≡ true
+  whole : are_all_columns outputs table.columns ≡ true
+  own : other ≡ model_of table
 
--- a model is used only for all its columns
-used_whole : (table : Table) (outputs : List OutputColumn) (model : ModelDecl) (identifier : List ℕ) → layout.model_of (model ∷ []) (model_used table outputs) ≡ Some identifier → (nat_le 2 (length outputs) ≡ true) × (are_all_columns outputs table.columns ≡ true)
-used_whole table outputs model identifier is = elim (cases_Bool (nat_le 2 (length outputs) && are_all_columns outputs table.columns)) [
-  | inl used ↦ both _ _ used
+used_own : (tables : List Table) (place : ℕ) (table : Table) (outputs : List OutputColumn) (other : ModelDecl) → are_apart (table_ids tables) → slice_get tables place ≡ Some table → model_with (map model_of tables) (model_used table outputs) ≡ Some other → UsesOwn table outputs other
+used_own tables place table outputs other apart there is = elim (cases_Bool (nat_le 2 (length outputs) && are_all_columns outputs table.columns)) [
+  | inl used ↦
+      let parts = both (nat_le 2 (length outputs)) (are_all_columns outputs table.columns) used in
+      let found : find (λ (model : ModelDecl). nat_eq model.id table.id) (map model_of tables) ≡ Some other = rw used at is in
+      record { several = parts.0; whole = parts.1; own = same_Some _ _ (sym found ∙ own_model tables place table apart there) }
   | inr none ↦ absurd (cc (rw none at is))
 ]
 
@@ -167,36 +186,28 @@ readable_files models (file ∷ files) named apart each =
       readable_files models files named.1 apart.1 each.1,
     )
 
-module _ (laws : Laws) (made : CreateTable) (is_made : IsMade made) where
-  abbrev contents : Contents
-  contents = only_with made
+module _ (laws : Laws) (contents : Contents) (schema : FromSchema contents) where
+  abbrev models : List ModelDecl
+  models = models_of contents
 
-  abbrev the_table : Table
-  the_table = record { id = 0; schema = codes "public"; name = made.name; columns = made.columns; key = None }
-
-  abbrev model : ModelDecl
-  model = model_of the_table
-
-  few_columns : length made.columns < 2 ^ 64
-  few_columns = omega (arith, is_made.small)
-
-  first : IsFirstTable made.columns
-  first = table_first is_made.statement made is_made.reads
+  identifier_run : (id : Option ℕ) (identifier : List ℕ) → layout.model_of models id ≡ Some identifier → is_run Word identifier ≡ true
+  identifier_run id identifier is =
+      let model = model_named models id identifier is in
+      subst (λ (x : List ℕ). is_run Word x ≡ true) model.1 (word_run (layout.model_name model.0) (laws.models model.0.schema model.0.name))
 
   -- a query with these outputs can be read again
-  readable_as : (query : Query) (found : Judged) (outputs : List OutputColumn) → found.columns ≡ outputs → found.model ≡ model_used the_table outputs → is_identifier query.name ≡ true → AllByRecursion ShowsFirst outputs → outputs ≢ [] → length outputs < 2 ^ 64
-      → ((other : ModelDecl) → model_with (model ∷ []) (model_used the_table outputs) ≡ Some other → shown_columns outputs ≡ fields other.columns) → IsReadableQuery (model ∷ []) (layout.query_imports (model ∷ []) (declared query found ∷ [])) (declared query found)
-  readable_as query found outputs columns_is model_is named types some few whole =
+  readable_as : (table : Table) (query : Query) (found : Judged) (outputs : List OutputColumn) → found.columns ≡ outputs → found.model ≡ model_used table outputs → is_identifier query.name ≡ true → AllByRecursion ShowsFirst outputs → outputs ≢ [] → length outputs < 2 ^ 64
+      → ((other : ModelDecl) → model_with models (model_used table outputs) ≡ Some other → shown_columns outputs ≡ fields other.columns) → IsReadableQuery models (layout.query_imports models (declared query found ∷ [])) (declared query found)
+  readable_as table query found outputs columns_is model_is named types some few whole =
       let word : is_word query.name ≡ true = identifier_word query.name named in
       let forms = columns_form outputs types in
-      let id = layout.model_of (model ∷ []) (model_used the_table outputs) in
+      let id = layout.model_of models (model_used table outputs) in
       let row_word = word_run (query.name ++ codes "Row") (laws.rows query.name word) in
-      let model_word = word_run (layout.model_name model) (laws.models model.schema _) in
       record {
         query_word = word_run query.name word;
         constant_word = word_run (constant_name query.name) (laws.constants query.name word);
         row_word = row_word;
-        row_spelled = rw (columns_is, model_is) (row_spelled id query.name (shown_columns outputs) forms row_word (λ identifier is. subst (λ (x : List ℕ). is_run Word x ≡ true) (model_named model (model_used the_table outputs) identifier is) model_word));
+        row_spelled = rw (columns_is, model_is) (row_spelled id query.name (shown_columns outputs) forms row_word (identifier_run (model_used table outputs)));
         columns_spelled = rw columns_is (fields_spelled (shown_columns outputs) forms (laws.column_words outputs));
         columns_apart = rw columns_is (laws.columns_apart outputs few);
         query_types = rw (columns_is, model_is, append-nil) (own_stands id (shown_columns outputs) forms);
@@ -213,8 +224,14 @@ module _ (laws : Laws) (made : CreateTable) (is_made : IsMade made) where
     from : FromTable contents query.select found
     from = table_from contents query.select found judges
 
-    only : from.table ≡ the_table
-    only = only_table the_table from.table from.place from.there
+    abbrev the_table : Table
+    the_table = from.table
+
+    first : HasFirstTypes the_table
+    first = at_place HasFirstTypes contents.tables from.place the_table schema.first from.there
+
+    is_table : IsTable the_table
+    is_table = at_place IsTable contents.tables from.place the_table schema.kept.tables from.there
 
     abbrev outputs : List OutputColumn
     outputs = from.columns.1
@@ -223,33 +240,27 @@ module _ (laws : Laws) (made : CreateTable) (is_made : IsMade made) where
     columns_is = ap (λ (j : Judged). j.columns) from.is
 
     model_is : found.model ≡ model_used the_table outputs
-    model_is = ap (λ (j : Judged). j.model) from.is ∙ ap (λ (t : Table). model_used t outputs) only
+    model_is = ap (λ (j : Judged). j.model) from.is
 
     core_is : found.core ≡ select_core from.place from.columns.0
     core_is = ap (λ (j : Judged). j.core) from.is
 
-    names : judged_names the_table query.select.outputs ≡ Ok from.columns
-    names = subst (λ (t : Table). judged_names t query.select.outputs ≡ Ok from.columns) only from.judges
-
-    there : slice_get contents.tables from.place ≡ Some the_table
-    there = subst (λ (t : Table). slice_get contents.tables from.place ≡ Some t) only from.there
-
-    come : AllByRecursion (ComesFrom made.columns) outputs
-    come = names_come the_table query.select.outputs from.columns names
+    come : AllByRecursion (ComesFrom the_table.columns) outputs
+    come = names_come the_table query.select.outputs from.columns from.judges
 
     -- what is shown of a query whose model is used
-    shown_whole : (other : ModelDecl) → model_with (model ∷ []) (model_used the_table outputs) ≡ Some other → shown_columns outputs ≡ fields other.columns
+    shown_whole : (other : ModelDecl) → model_with models (model_used the_table outputs) ≡ Some other → shown_columns outputs ≡ fields other.columns
     shown_whole other is =
-        let same = model_found model other (model_used the_table outputs) is in
-        let used = used_whole the_table outputs model (layout.model_name model) same.1 in
-        let whole = both (length outputs == length made.columns) (have_names outputs made.columns) used.1 in
-        several_shown outputs used.0 ∙ ap fields (all_outputs made.columns first.apart outputs come (eqb-true (length outputs) (length made.columns) whole.0) whole.1) ∙ ap (λ (m : ModelDecl). fields m.columns) (sym same.0)
+        let used = used_own contents.tables from.place the_table outputs other schema.kept.apart from.there is in
+        let whole = both (length outputs == length the_table.columns) (have_names outputs the_table.columns) used.whole in
+        several_shown outputs used.several ∙ ap fields (all_outputs the_table.columns is_table.distinct outputs come (eqb-true (length outputs) (length the_table.columns) whole.0) whole.1)
+        ∙ ap (λ (m : ModelDecl). fields m.columns) (sym used.own)
 
     said : SaysQuery contents file (shown (declared query found).signature)
     said =
-        let shows = names_show the_table query.select.outputs from.columns first.types names in
+        let shows = names_show the_table query.select.outputs from.columns first from.judges in
         let prints = columns_print outputs shows.types in
-        let typed : IsTyped contents (select_core from.place from.columns.0) outputs = laws.typed contents from.place from.columns.0 outputs (rw there shows.shows) in
+        let typed : IsTyped contents (select_core from.place from.columns.0) outputs = laws.typed contents from.place from.columns.0 outputs (rw from.there shows.shows) in
         let never : NeverStuck contents [] found.core outputs = subst (λ (core : CoreStatement). NeverStuck contents [] core outputs) (sym core_is) (laws.sound contents [] (select_core from.place from.columns.0) outputs typed) in
         let again = respelled laws read.number read.bytes file.tokens read.listed query text in
         record {
@@ -262,48 +273,55 @@ module _ (laws : Laws) (made : CreateTable) (is_made : IsMade made) where
           runs = rw columns_is (runs_as_printed contents found.core outputs (shown_columns outputs) never prints);
         }
 
-    readable : IsReadableQuery (model ∷ []) (layout.query_imports (model ∷ []) (declared query found ∷ [])) (declared query found)
+    readable : IsReadableQuery models (layout.query_imports models (declared query found ∷ [])) (declared query found)
     readable =
-        let count = names_size the_table query.select.outputs from.columns names in
-        readable_as query found outputs columns_is model_is text.named (names_show the_table query.select.outputs from.columns first.types names).types (some_outputs the_table query.select.outputs from.columns text.some names)
+        let count = names_size the_table query.select.outputs from.columns from.judges in
+        readable_as the_table query found outputs columns_is model_is text.named (names_show the_table query.select.outputs from.columns first from.judges).types (some_outputs the_table query.select.outputs from.columns text.some from.judges)
         (omega (arith, count, text.small, read.small)) shown_whole
 
-  model_readable : IsReadableModel (layout.sql_import (flat_map layout.model_forms (model ∷ []))) model
-  model_readable =
-      let columns = map output_of made.columns in
-      let forms = all_fields_form columns (map_first made.columns first.types) in
-      record {
-        model_word = word_run (layout.model_name model) (laws.models model.schema _);
-        fields_spelled = fields_spelled (fields columns) forms (laws.field_words columns);
-        model_types = rw append-nil (model_stands (fields columns) forms);
-      }
+  -- the models of tables with these types have their forms
+  models_form : (tables : List Table) → AllByRecursion HasFirstTypes tables → AllByRecursion HasFirstForms (map model_of tables)
+  models_form [] all = tt
+  models_form (t ∷ tables) all = (all_fields_form (map output_of t.columns) (map_first t.columns all.0), models_form tables all.1)
 
-  all_said : (files : List SourceFile) (written : List QueryFile) → AllByRecursion IsRead files → AllZip (FromQuery contents) files written → AllZip (SaysQuery contents) files (signatures_of written) × AllByRecursion (HasReadable (model ∷ [])) written
-  all_said [] [] read from = (tt, tt)
-  all_said [] (w ∷ written) read from = absurd from
-  all_said (file ∷ files) [] read from = absurd from
-  all_said (file ∷ files) (w ∷ written) read from =
-      let one = from.0 in
-      let later = all_said files written read.1 from.1 in
+  models_readable : (imports : List (List ℕ)) (ms : List ModelDecl) → AllByRecursion HasFirstForms ms → AllByRecursion (λ (model : ModelDecl). fields_stand imports (fields model.columns) ≡ true) ms → AllByRecursion (IsReadableModel imports) ms
+  models_readable imports [] forms stand = tt
+  models_readable imports (m ∷ ms) forms stand = (
+    record {
+      model_word = word_run (layout.model_name m) (laws.models m.schema m.name);
+      fields_spelled = fields_spelled (fields m.columns) forms.0 (laws.field_words m.columns);
+      model_types = stand.0;
+    },
+    models_readable imports ms forms.1 stand.1,
+  )
+
+  each_readable : AllByRecursion (IsReadableModel (layout.sql_import (flat_map layout.model_forms models))) models
+  each_readable =
+      let forms = models_form contents.tables schema.first in
+      models_readable (layout.sql_import (flat_map layout.model_forms models)) models forms (models_stand models forms)
+
+  all_said : (files : List SourceFile) (written : List QueryFile) → AllByRecursion IsRead files → AllZip (FromQuery contents) files written → AllZip (SaysQuery contents) files (signatures_of written) × AllByRecursion (HasReadable models) written
+  all_said [] [] read chosen = (tt, tt)
+  all_said [] (w ∷ written) read chosen = absurd chosen
+  all_said (file ∷ files) [] read chosen = absurd chosen
+  all_said (file ∷ files) (w ∷ written) read chosen =
+      let one = chosen.0 in
+      let later = all_said files written read.1 chosen.1 in
       let says = said file read.0 one.query one.annotated one.found one.judges in
       let reads = readable file read.0 one.query one.annotated one.found one.judges in
-      subst (λ (x : QueryFile). AllZip (SaysQuery contents) (file ∷ files) (signatures_of (x ∷ written)) × AllByRecursion (HasReadable (model ∷ [])) (x ∷ written)) (sym one.is) ((says, later.0), ((reads, tt), later.1))
+      subst (λ (x : QueryFile). AllZip (SaysQuery contents) (file ∷ files) (signatures_of (x ∷ written)) × AllByRecursion (HasReadable models) (x ∷ written)) (sym one.is) ((says, later.0), ((reads, tt), later.1))
 
-  says_first : (files : List SourceFile) (written : List QueryFile) → AllByRecursion IsRead files → AllZip (FromQuery contents) files written → Said contents files written
-  says_first files written read from =
+  -- what the sources of a block say, and what is written for them
+  pub says_over : (files : List SourceFile) (written : List QueryFile) → AllByRecursion IsRead files → AllZip (FromQuery contents) files written → Said contents files written
+  says_over files written read from =
       let all = all_said files written read from in
       record {
         says = all.0;
         reads = λ own_package word apart.
-            laws.read own_package (model ∷ []) written (record {
+            laws.read own_package models written (record {
               package_word = word_run own_package word;
-              each_model = (model_readable, tt);
-              each_file = readable_files (model ∷ []) written (all_named contents files written from) (files_apart (model ∷ []) written apart) all.1;
+              each_model = each_readable;
+              each_file = readable_files models written (all_named contents files written from) (files_apart models written apart) all.1;
               no_clash = apart;
             });
       }
-
--- what the sources of a block say, and what is written for them
-pub says_over : (laws : Laws) (contents : Contents) → FromSchema contents → (files : List SourceFile) (written : List QueryFile) → AllByRecursion IsRead files → AllZip (FromQuery contents) files written → Said contents files written
-says_over laws contents schema files written read =
-    subst (λ (c : Contents). AllZip (FromQuery c) files written → Said c files written) (sym schema.holds) (says_first laws schema.table schema.made files written read)

@@ -1,12 +1,11 @@
--- How many columns and names a text can have.
+-- How many names a text can have.
 use Rattle.std.proofs.Common.{◌≡◌, ◌≢◌, ◌≤◌, ℕ, zero, suc, ◌+◌, ◌-◌, Bool, true, false, cond, List, [], ◌∷◌, length, take, drop, Option, None, Some, Result, Ok, Err, refl, sym, ap, subst, inl, inr, arith}
-use Rattle.std.specs.Prelude.{codes, nat_lt}
+use Rattle.std.specs.Prelude.{codes}
 use Rattle.std.specs.Option.{option_map}
 use Rattle.std.specs.Str.{is_utf8}
 use Rattle.std.proofs.lemmas.Bool.{cases_Bool}
 use Rattle.std.proofs.lemmas.List.{length-take, length-drop}
 use Rattle.std.proofs.lemmas.Option.{same_Some}
-use Rattle.sq_catalog.specs.declared.table.Column.{Column as TableColumn}
 use Rattle.sq_base.specs.declared.place.Place.{Place}
 use Rattle.sq_base.specs.declared.refusal.Refusal.{Refusal}
 use Rattle.sq_syntax.specs.Tokens.{begins_line, has_mark, text_of, text_start, text_gap}
@@ -17,12 +16,10 @@ use Rattle.sq_syntax.specs.declared.token.TokenKind.{TokenKind}
 use Rattle.sq_syntax.specs.declared.token.TokenKind.TheVariants.{Word, Punct}
 use Rattle.sq_lexer.specs.Machine.{scan, begin}
 use Rattle.sq_lexer.specs.TokenList.{Reader, begun, read_past, read_unless, read_found, read_within, token_list}
-use Rattle.sq_run.specs.declared.statements.CreateTable.{CreateTable}
 use Rattle.sq_run.specs.declared.statements.Named.{Named}
 use Rattle.sq_run.specs.declared.statements.Select.{Select}
-use Rattle.sq_run.specs.Statements.{Part, is, named, after, name_at, column_at, next, with_item, items_from, items_at, ended, distinct, limited, has_twin, one_statement, create_table, select}
+use Rattle.sq_run.specs.Statements.{Part, is, named, after, name_at, next, with_item, items_from, items_at, ended, one_statement, select}
 use Rattle.sq_run.specs.Names.{name_text}
-use Rattle.sq_run.specs.Project.{is_no_note, without_notes}
 use Rattle.sq_run.proofs.OkSteps.{bind_some}
 
 ok_same : {A : Type 0} (x y : A) → ◌≡◌ {A = Result A Refusal} (Ok x) (Ok y) → x ≡ y
@@ -103,36 +100,6 @@ items_size {A} item kind close (suc n) ts r found =
     by_more all x true us same = by_later x (items_from item kind close n us) (λ l. all us l) same
     by_more all x false us same = subst (λ (y : List A × List Token). (length y.0 ≤ suc n) × (y.0 ≢ [])) (same_Some _ _ same) (omega arith, λ none. cc none)
 
-distinct_same : (columns cs : List TableColumn) → distinct columns ≡ Some cs → columns ≡ cs
-unfolding distinct
-distinct_same columns cs found = elim (cases_Bool (has_twin columns)) [
-  | inl twin ↦ absurd (cc (rw twin at found))
-  | inr none ↦ same_Some _ _ (rw none at found)
-]
-
-limited_same : (columns cs : List TableColumn) → limited columns ≡ Some cs → columns ≡ cs
-unfolding limited
-limited_same columns cs found = elim (cases_Bool (nat_lt 1600 (length columns))) [
-  | inl many ↦ absurd (cc (rw many at found))
-  | inr few ↦ same_Some _ _ (rw few at found)
-]
-
--- a table has no more columns than its statement tokens
-pub table_size : (ts : List Token) (table : CreateTable) → create_table ts ≡ Some table → length table.columns ≤ length ts
-unfolding create_table
-table_size ts table found =
-    let a = bind_some (after Word (codes "create") ts) _ table found in
-    let b = bind_some (after Word (codes "table") a.0) _ table a.2 in
-    let name = bind_some (name_at b.0) _ table b.2 in
-    let c = bind_some (after Punct (codes "(") name.0.1) _ table name.2 in
-    let items = bind_some (items_at column_at Punct (codes ")") c.0) _ table c.2 in
-    let end = bind_some (ended items.0.1) _ table items.2 in
-    let cs = bind_some (distinct items.0.0) _ table end.2 in
-    let size = (items_size column_at Punct (codes ")") (length c.0) c.0 items.0 items.1).0 in
-    let few = bind_some (limited cs.0) _ table cs.2 in
-    let is_columns = ap (λ (t : CreateTable). length t.columns) (same_Some _ _ few.2) in
-    omega (arith, after_size Word (codes "create") ts a.0 a.1, after_size Word (codes "table") a.0 b.0 b.1, name_size b.0 name.0 name.1, after_size Punct (codes "(") name.0.1 c.0 c.1, size, ap length (distinct_same items.0.0 cs.0 cs.1), ap length (limited_same cs.0 few.0 few.1), is_columns)
-
 -- a query has a name or more, and no more of them than its statement tokens
 pub query_size : (ts : List Token) (query : Select) → select ts ≡ Some query → (length query.outputs ≤ length ts) × (query.outputs ≢ [])
 unfolding select
@@ -153,10 +120,3 @@ statement_size ts statement found = by_end (after Punct (codes ";") (drop (lengt
     by_end : (end : Option (List Token)) → option_map (λ e. take (length ts - 1) ts) end ≡ Some statement → (length statement ≤ length ts) × (statement ≡ take (length ts - 1) ts)
     by_end None same = absurd (cc same)
     by_end (Some e) same = let is : take (length ts - 1) ts ≡ statement = same_Some _ _ same in (omega (arith, ap length is, length-take (length ts - 1) ts), sym is)
-
-pub notes_size : (ts : List Token) → length (without_notes ts) ≤ length ts
-notes_size [] = omega arith
-notes_size (t ∷ ts) = elim (cases_Bool (is_no_note t.kind)) [
-  | inl kept ↦ rw kept (omega (arith, notes_size ts))
-  | inr dropped ↦ rw dropped (omega (arith, notes_size ts))
-]

@@ -20,6 +20,8 @@ use Rattle.sq_lexer.specs.TokenList.{token_list}
 use Rattle.sq_reader.specs.Reading.{Reads}
 use Rattle.sq_run.specs.declared.command_line.Task.TheVariants.{Generate}
 use Rattle.sq_run.specs.declared.configuration.Block.{Block}
+use Rattle.sq_run.specs.declared.entries.Purpose.{Purpose}
+use Rattle.sq_run.specs.declared.entries.Purpose.TheVariants.{Schema, Queries}
 use Rattle.sq_run.specs.declared.judge.Judged.{Judged}
 use Rattle.sq_run.specs.declared.outputs.Output.{Output}
 use Rattle.sq_run.specs.declared.query.Query.{Query}
@@ -32,6 +34,7 @@ use Rattle.sq_run.specs.Judged.{judged}
 use Rattle.sq_run.specs.Project.{output_of_entry, configured, catalogue_of, declared, placed, task_asked}
 use Rattle.sq_run.specs.Query.{query_of}
 use Rattle.sq_run.specs.Run.{Outside, files_asked}
+use Rattle.sq_run.specs.Sources.{found_for, bytes_read}
 use Rattle.sq_run.specs.Statements.{select, ◌>>=◌}
 
 -- what was judged, where it was not refused
@@ -53,13 +56,19 @@ abbrev pub RunsAsPrinted : Contents → CoreStatement → List ShownField → Ty
 RunsAsPrinted contents core columns =
     (database : Database) (arguments : List ClientValue) → DatabaseFits contents database → ArgumentsFit [] arguments → Keeps (ReturnsFit columns) (run Go contents [] core database arguments)
 
--- the files at these paths were read: each is held, and its bytes have these tokens
-pub record IsSource (held : List File) (path : List ℕ) (file : SourceFile) : Type 0 where
+-- the file at a path was read: it is held, and what is read of its bytes has these tokens
+pub record IsSource (purpose : Purpose) (held : List File) (path : List ℕ) (file : SourceFile) : Type 0 where
   pub bytes : List ℕ
   pub number : ℕ
   pub at_path : file.path ≡ path
   pub source_held : bytes_at held path ≡ Some bytes
-  pub listed : token_list number bytes ≡ Ok file.tokens
+  pub listed : token_list number (bytes_read purpose bytes) ≡ Ok file.tokens
+
+-- the files that the paths of a key stand for were read, in order
+pub record AreSources (purpose : Purpose) (held : List File) (paths : List (List ℕ)) (files : List SourceFile) : Type 0 where
+  pub found : List (List ℕ)
+  pub stand_for : found_for purpose paths held ≡ Some found
+  pub all_held : AllZip (IsSource purpose held) found files
 
 -- A file of queries has exactly one annotated query, and this is its shown signature, whose text does what the signature says.
 pub record SaysQuery (contents : Contents) (file : SourceFile) (signature : Shown) : Type 0 where
@@ -95,10 +104,10 @@ pub record IsBlock (path : List ℕ) (held now : List File) (block : Block) (put
   pub signatures : List Shown
   pub has_outputs : each_judged (output_of_entry path) block.entries ≡ Ok outputs
   -- the schema is held and gives the catalogue
-  pub schema_held : AllZip (IsSource held) block.schema schema
+  pub schema_held : AreSources Schema held block.schema schema
   pub replays : catalogue_of path schema ≡ Ok contents
   -- the files of queries are held, and each has one of these signatures, in order
-  pub queries_held : AllZip (IsSource held) block.queries queries
+  pub queries_held : AreSources Queries held block.queries queries
   pub says : AllZip (SaysQuery contents) queries signatures
   -- the files of each output read as these
   pub written : InOrder (IsWritten signatures now) outputs put

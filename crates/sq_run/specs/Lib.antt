@@ -17,7 +17,10 @@ pub mod Printed
 pub mod Project
 pub mod Query
 pub mod Read
+pub mod Rollback
 pub mod Run
+pub mod Schema
 pub mod Shape
+pub mod Sources
 pub mod Statements
 pub mod Status

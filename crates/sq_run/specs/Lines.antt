@@ -23,15 +23,25 @@ word number =
     if number == 1 then codes "Unterminated"
     else (if number == 2 then codes "BadByte"
     else (if number == 3 then codes "NotUtf8"
+    else (if number == 4 then codes "TooLong"
+    else (if number == 5 then codes "TooNested"
+    else (if number == 6 then codes "Syntax"
     else (if number == 8 then codes "FileTooLong"
     else (if number == 9 then codes "TooManyFiles"
     else (if number == 10 then codes "UnknownTable"
     else (if number == 11 then codes "UnknownColumn"
+    else (if number == 15 then codes "UnknownType"
+    else (if number == 16 then codes "UnknownSchema"
     else (if number == 70 then codes "BadJson"
     else (if number == 71 then codes "BadKey"
     else (if number == 72 then codes "NoWriter"
     else (if number == 73 then codes "SameOut"
-    else codes "NotYet"))))))))))
+    else (if number == 80 then codes "Exists"
+    else (if number == 81 then codes "Missing"
+    else (if number == 82 then codes "InUse"
+    else (if number == 83 then codes "InPrimaryKey"
+    else (if number == 84 then codes "TooManyColumns"
+    else codes "NotYet"))))))))))))))))))))
 
 -- a text that a refusal keeps, and a space before it; an empty one is left away
 abbrev pub kept : List ℕ → List ℕ

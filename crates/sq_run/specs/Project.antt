@@ -1,17 +1,12 @@
 -- What the program makes of the files held.
-use Rattle.std.specs.Prelude.{◌≡◌, ℕ, Bool, true, false, nat_le, if◌then◌else◌, List, [], ◌∷◌, ◌++◌, map, filter, length, drop, Option, None, Some, is_some, Result, Ok, Err, codes}
+use Rattle.std.specs.Prelude.{◌≡◌, ℕ, Bool, true, false, nat_le, if◌then◌else◌, List, [], ◌∷◌, ◌++◌, map, length, drop, Option, None, Some, is_some, Result, Ok, Err}
 use Rattle.std.specs.Option.{option_map}
-use Rattle.sq_base.specs.Files.{bytes_at, is_file, is_folder}
+use Rattle.sq_base.specs.Files.{bytes_at}
 use Rattle.sq_base.specs.Tree.{TreeState}
 use Rattle.sq_base.specs.declared.file.File.{File}
 use Rattle.sq_base.specs.declared.refusal.Refusal.{Refusal}
 use Rattle.sq_catalog.specs.Contents.{Contents}
-use Rattle.sq_catalog.specs.Catalogue.{public, empty, step}
 use Rattle.sq_catalog.specs.declared.table.Table.{Table}
-use Rattle.sq_catalog.specs.declared.change.Change.{Change}
-use Rattle.sq_catalog.specs.declared.change.Change.TheVariants.{CreateTable as MakesTable}
-use Rattle.sq_catalog.specs.declared.change.ChangeFault.{ChangeFault}
-use Rattle.sq_catalog.specs.declared.change.Keys.TheVariants.{Nothing}
 use Rattle.sq_core.specs.Identifiers.{package_name}
 use Rattle.sq_core.specs.Layout.{layout}
 use Rattle.sq_core.specs.Names.{clash}
@@ -21,8 +16,6 @@ use Rattle.sq_core.specs.declared.declaration.QuerySig.{QuerySig}
 use Rattle.sq_core.specs.declared.signature.Command.TheVariants.{Many}
 use Rattle.sq_lexer.specs.TokenList.{token_list}
 use Rattle.sq_syntax.specs.declared.token.Token.{Token}
-use Rattle.sq_syntax.specs.declared.token.TokenKind.{TokenKind}
-use Rattle.sq_syntax.specs.declared.token.TokenKind.TheVariants.{Note}
 use Rattle.sq_run.specs.declared.halt.Finding.{Finding}
 use Rattle.sq_run.specs.declared.halt.Finding.TheVariants.{Configuration as InConfiguration, Source as InSource}
 use Rattle.sq_run.specs.declared.halt.Halt.{Halt}
@@ -36,6 +29,8 @@ use Rattle.sq_run.specs.declared.configuration.Block.{Block}
 use Rattle.sq_run.specs.declared.configuration.Configuration.{Configuration as Configured}
 use Rattle.sq_run.specs.declared.configuration.Entry.{Entry}
 use Rattle.sq_run.specs.declared.configuration.OptionPair.{OptionPair}
+use Rattle.sq_run.specs.declared.entries.Purpose.{Purpose}
+use Rattle.sq_run.specs.declared.entries.Purpose.TheVariants.{Schema, Queries}
 use Rattle.sq_run.specs.declared.outputs.Output.{Output}
 use Rattle.sq_run.specs.declared.query.Query.{Query}
 use Rattle.sq_run.specs.declared.read.Role.{Role}
@@ -43,14 +38,14 @@ use Rattle.sq_run.specs.declared.sources.SourceFile.{SourceFile}
 use Rattle.sq_run.specs.declared.sources.TheConstants.{MOST_FILES}
 use Rattle.sq_run.specs.declared.read.Role.TheVariants.{Configuration, Source}
 use Rattle.sq_run.specs.declared.read.TheConstants.{LIMIT}
-use Rattle.sq_run.specs.declared.statements.CreateTable.{CreateTable}
 use Rattle.sq_run.specs.Asked.{Asked, Follows, nothing_asked, and_then, gathered, each_judged}
 use Rattle.sq_run.specs.CommandLine.{request_of}
 use Rattle.sq_run.specs.Configuration.{configuration_of}
 use Rattle.sq_run.specs.Judged.{judged, output_of}
 use Rattle.sq_run.specs.Paths.{folder_of}
 use Rattle.sq_run.specs.Query.{query_of}
-use Rattle.sq_run.specs.Statements.{one_statement, create_table, ◌>>=◌}
+use Rattle.sq_run.specs.Sources.{found_at, bytes_read}
+pub use Rattle.sq_run.specs.Schema.{catalogue_of}
 
 -- a file is refused by a number
 abbrev pub refused_file : Role → ℕ → List ℕ → Finding
@@ -71,13 +66,9 @@ whole_file role path files = record { paths = path ∷ []; answer = option_map (
 
 -- SOURCES: the files of one key of a block
 
--- the path of the file at a path, at which a file is wanted
-abbrev pub wanted : List ℕ → List File → Option (Result (List (List ℕ)) (List Finding))
-wanted path files = if is_file files path then Some (Ok (path ∷ [])) else (if is_folder files path then Some (Err (not_yet Source path ∷ [])) else None)
-
--- lists a path, at which a file is wanted
-abbrev pub wanted_file : List ℕ → List File → Asked (List (List ℕ))
-wanted_file path files = record { paths = path ∷ []; answer = wanted path files }
+-- lists a path
+abbrev pub listed : Purpose → List ℕ → List File → Asked (List (List ℕ))
+listed purpose path files = record { paths = path ∷ []; answer = option_map (λ found. Ok found) (found_at purpose path files) }
 
 -- paths, where none of these is too many
 abbrev pub unless_more : List (List ℕ) → List (List ℕ) → Result (List (List ℕ)) (List Finding)
@@ -94,15 +85,15 @@ with_tokens path (Ok tokens) = Ok (record { path = path; tokens = tokens } ∷ [
 with_tokens path (Err refusal) = Err (InSource path refusal ∷ [])
 
 -- reads the source at a path, which has this number among those of its key
-abbrev pub source : ℕ → List ℕ → List File → Asked (List SourceFile)
-source number path files = and_then (whole_file Source path files) (λ bytes. nothing_asked (with_tokens path (token_list number bytes)))
+abbrev pub source : Purpose → ℕ → List ℕ → List File → Asked (List SourceFile)
+source purpose number path files = and_then (whole_file Source path files) (λ bytes. nothing_asked (with_tokens path (token_list number (bytes_read purpose bytes))))
 
--- lists the paths of a key, and then reads their files
-abbrev pub sources : List (List ℕ) → List File → Asked (List SourceFile)
-sources paths files =
-    and_then (gathered (λ _ path. wanted_file path) 0 paths files) (λ found.
+-- lists the paths of a key, and then reads the files that they stand for
+abbrev pub sources : Purpose → List (List ℕ) → List File → Asked (List SourceFile)
+sources purpose paths files =
+    and_then (gathered (λ _ path. listed purpose path) 0 paths files) (λ found.
     and_then (nothing_asked (counted found)) (λ few.
-    gathered source 0 few files))
+    gathered (source purpose) 0 few files))
 
 -- OUTPUTS: of each entry, which has no options so far
 
@@ -123,74 +114,6 @@ configured_by path (Err bad) = Err (InConfiguration path bad.number bad.first �
 -- the blocks that the bytes of the configuration at a path ask for
 abbrev pub configured : List ℕ → List ℕ → Result (List Block) (List Finding)
 configured path bytes = configured_by path (configuration_of (folder_of path) bytes)
-
--- THE SCHEMA: all its files together have one statement, so far
-
--- the change that makes a table
-abbrev pub made_by : CreateTable → Change
-made_by table = MakesTable public table.name false table.columns Nothing
-
--- what a change has made, or a form that isn't built yet
-abbrev pub changed : List ℕ → Result Contents ChangeFault → Result Contents (List Finding)
-changed path (Ok contents) = Ok contents
-changed path (Err fault) = Err (not_yet Configuration path ∷ [])
-
--- the catalogue with this table alone
-abbrev pub catalogue_with : List ℕ → CreateTable → Result Contents (List Finding)
-catalogue_with path table = changed path (step empty (made_by table))
-
--- whether a token isn't a comment that names a query: a schema has no use for these
-abbrev pub is_no_note : TokenKind → Bool
-is_no_note Note = false
-is_no_note _ = true
-
--- the tokens of a schema
-abbrev pub without_notes : List Token → List Token
-without_notes tokens = filter (λ (token : Token). is_no_note token.kind) tokens
-
--- the table that a statement makes
-unfoldable pub table_of : List Token → Option CreateTable
-table_of tokens = do
-  statement ← one_statement tokens
-  create_table statement
-
--- one table, or a form that isn't built yet
-abbrev pub table_by : List ℕ → Option CreateTable → Result (List CreateTable) (List Finding)
-table_by path (Some table) = Ok (table ∷ [])
-table_by path None = Err (not_yet Source path ∷ [])
-
--- the tables that tokens make: none where there are none
-abbrev pub tables_by : List ℕ → List Token → Result (List CreateTable) (List Finding)
-tables_by path [] = Ok []
-tables_by path (token ∷ tokens) = table_by path (table_of (token ∷ tokens))
-
--- the tables that a file of a schema makes
-abbrev pub tables_in : SourceFile → Result (List CreateTable) (List Finding)
-tables_in file = tables_by file.path (without_notes file.tokens)
-
--- the only table, where there is one
-abbrev pub only : List CreateTable → Option CreateTable
-only [] = None
-only (table ∷ []) = Some table
-only (table ∷ second ∷ tables) = None
-
--- the catalogue of the only table
-abbrev pub catalogue_with_only : List ℕ → Option CreateTable → Result Contents (List Finding)
-catalogue_with_only path (Some table) = catalogue_with path table
-catalogue_with_only path None = Err (not_yet Configuration path ∷ [])
-
--- the catalogue of these tables, where there is one, and else a form that isn't built yet
-abbrev pub catalogue_by : List ℕ → List CreateTable → Result Contents (List Finding)
-catalogue_by path tables = catalogue_with_only path (only tables)
-
--- the catalogue, where every file was judged
-abbrev pub catalogue_from : List ℕ → Result (List CreateTable) (List Finding) → Result Contents (List Finding)
-catalogue_from path (Ok tables) = catalogue_by path tables
-catalogue_from path (Err findings) = Err findings
-
--- what a schema is judged to be, of a block in the configuration at this path
-abbrev pub catalogue_of : List ℕ → List SourceFile → Result Contents (List Finding)
-catalogue_of path schema = catalogue_from path (each_judged tables_in schema)
 
 -- DECLARATIONS
 
@@ -255,9 +178,9 @@ configuration_at path files = and_then (whole_file Configuration path files) (λ
 abbrev pub block_files : List ℕ → Block → List File → Asked (List File)
 block_files path block files =
     and_then (nothing_asked (each_judged (output_of_entry path) block.entries)) (λ outputs.
-    and_then (sources block.schema files) (λ schema.
+    and_then (sources Schema block.schema files) (λ schema.
     and_then (nothing_asked (catalogue_of path schema)) (λ contents.
-    and_then (sources block.queries files) (λ queries.
+    and_then (sources Queries block.queries files) (λ queries.
     and_then (nothing_asked (each_judged (declared_in contents) queries)) (λ declared.
     nothing_asked (each_judged (written path (models_of contents) declared) outputs))))))
 

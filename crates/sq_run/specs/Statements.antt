@@ -1,17 +1,11 @@
--- The first statements that are read: a table of integer and text columns, and a query for columns of one table.
-use Rattle.std.specs.Prelude.{ℕ, suc, zero, nat_lt, ◌&&◌, ◌||◌, Bool, true, false, if◌then◌else◌, List, [], ◌∷◌, length, codes, Option, None, Some, ◌-◌, take, drop}
+-- The first queries that are read: for columns of one table.
+use Rattle.std.specs.Prelude.{ℕ, suc, zero, ◌&&◌, Bool, true, false, if◌then◌else◌, List, [], ◌∷◌, length, codes, Option, None, Some, ◌-◌, take, drop}
 use Rattle.std.specs.Option.{option_map}
-use Rattle.std.specs.List.{list_any}
-use Rattle.std.specs.Str.{bytes_eq}
 use denote.Enum.Bare.{sameb}
-use Rattle.sq_base.specs.declared.types.PgType.{PgType}
-use Rattle.sq_base.specs.declared.types.Scalar.TheVariants.{Integer, Text}
-use Rattle.sq_catalog.specs.declared.table.Column.{Column}
 use Rattle.sq_syntax.specs.contracts.TokenKind.{the_type}
 use Rattle.sq_syntax.specs.declared.token.Token.{Token}
 use Rattle.sq_syntax.specs.declared.token.TokenKind.{TokenKind}
 use Rattle.sq_syntax.specs.declared.token.TokenKind.TheVariants.{Word, Punct}
-use Rattle.sq_run.specs.declared.statements.CreateTable.{CreateTable}
 use Rattle.sq_run.specs.declared.statements.Named.{Named}
 use Rattle.sq_run.specs.declared.statements.Select.{Select}
 use Rattle.sq_run.specs.Names.{same_word, name_text}
@@ -47,32 +41,6 @@ unfoldable pub name_at : List Token → Part Named
 name_at [] = None
 name_at (token ∷ tokens) = option_map (λ name. (named token name, tokens)) (name_text token.kind token.bytes)
 
-abbrev pub integer : PgType
-integer = record { scalar = Integer; array = false }
-
-abbrev pub text : PgType
-text = record { scalar = Text; array = false }
-
--- the type integer or text
-unfoldable pub type_at : List Token → Part PgType
-type_at [] = None
-type_at (token ∷ tokens) = if is Word (codes "integer") token then Some (integer, tokens) else (if is Word (codes "text") token then Some (text, tokens) else None)
-
--- whether NOT NULL stands here, and the tokens after it
-unfoldable pub not_null_at : List Token → Part Bool
-not_null_at tokens = elim (after Word (codes "not") tokens) [
-  | None ↦ Some (false, tokens)
-  | Some later ↦ option_map (λ rest. (true, rest)) (after Word (codes "null") later)
-]
-
--- a column: a name, a type and NOT NULL or nothing
-unfoldable pub column_at : List Token → Part Column
-column_at tokens = do
-  name ← name_at tokens
-  of ← type_at name.1
-  not_null ← not_null_at of.1
-  Some (record { name = name.0.name; of = of.0; not_null = not_null.0 }, not_null.1)
-
 -- what follows an item of a list: a comma and more items, or the closing word or mark
 unfoldable pub next : TokenKind → List ℕ → List Token → Part Bool
 next kind close tokens = elim (after Punct (codes ",") tokens) [
@@ -101,39 +69,9 @@ unfoldable pub ended : List Token → Option (Unit {0})
 ended [] = Some tt
 ended (token ∷ tokens) = None
 
--- whether one of these columns has this name
-abbrev pub has_name : List Column → List ℕ → Bool
-has_name columns name = list_any (λ (other : Column). bytes_eq other.name name) columns
-
--- whether two columns have one name
-abbrev pub has_twin : List Column → Bool
-has_twin [] = false
-has_twin (column ∷ columns) = has_name columns column.name || has_twin columns
-
--- the columns, where no two have one name
-unfoldable pub distinct : List Column → Option (List Column)
-distinct columns = if has_twin columns then None else Some columns
-
--- the columns, where a table can have so many (PostgreSQL manual, appendix K)
-unfoldable pub limited : List Column → Option (List Column)
-limited columns = if nat_lt 1600 (length columns) then None else Some columns
-
 -- the one statement of a file, which a semicolon ends, without it
 unfoldable pub one_statement : List Token → Option (List Token)
 one_statement tokens = option_map (λ end. take (length tokens - 1) tokens) (after Punct (codes ";") (drop (length tokens - 1) tokens))
-
--- CREATE TABLE name ( column {, column} )
-unfoldable pub create_table : List Token → Option CreateTable
-create_table tokens = do
-  tokens ← after Word (codes "create") tokens
-  tokens ← after Word (codes "table") tokens
-  name ← name_at tokens
-  tokens ← after Punct (codes "(") name.1
-  columns ← items_at column_at Punct (codes ")") tokens
-  end ← ended columns.1
-  columns ← distinct columns.0
-  columns ← limited columns
-  Some (record { name = name.0.name; columns = columns })
 
 -- SELECT name {, name} FROM name
 unfoldable pub select : List Token → Option Select

@@ -7,6 +7,7 @@ ghost use Rattle.sq_run.specs.Project.{block_files, all_files};
 use crate::Halt;
 use crate::configuration::Block;
 use crate::declare::declare_queries;
+use crate::entries::Purpose;
 use crate::joining::{ending, join};
 use crate::outputs::outputs_of;
 use crate::schema::catalogue_of;
@@ -25,9 +26,9 @@ fn judge_block<T: Tree>(
     ensures { Follows (block_files configuration.now block.now) (T.state tree.old) (T.state tree.new) result }
 {
     let outputs = outputs_of(alloc, configuration, block.entries.as_slice())?;
-    let schema = read_sources(alloc, tree, block.schema.as_slice())?;
+    let schema = read_sources(alloc, tree, Purpose::Schema, block.schema.as_slice())?;
     let catalogue = catalogue_of(alloc, configuration, schema)?;
-    let sources = read_sources(alloc, tree, block.queries.as_slice())?;
+    let sources = read_sources(alloc, tree, Purpose::Queries, block.queries.as_slice())?;
     let queries = declare_queries(alloc, &catalogue, sources.as_slice())?;
     write(
         alloc,

@@ -8,7 +8,7 @@ use sq_base::List;
 use std::alloc::AllocError;
 
 /// Adds items at the end.
-fn append<T: Drop>(items: &mut List<T>, more: List<T>) -> Result<(), AllocError>
+pub fn append<T: Drop>(items: &mut List<T>, more: List<T>) -> Result<(), AllocError>
     ensures { OnOk result (items.new ≡ items.old ++ more) }
 {
     for item in more.into_vec() {

@@ -2,9 +2,11 @@ ghost use Rattle.std.specs.Prelude.{◌≡◌, ◌≤◌, [], ◌∷◌, length,
 ghost use Rattle.sq_run.specs.Asked.{Follows, Judges};
 ghost use Rattle.sq_run.specs.declared.halt.Finding.TheVariants.{Source as InSource};
 ghost use Rattle.sq_run.specs.Project;
-ghost use Rattle.sq_run.specs.Project.{whole_file, wanted_file};
+ghost use Rattle.sq_run.specs.Project.{whole_file, listed};
+ghost use Rattle.sq_run.specs.Sources;
 ghost use Rattle.sq_run.specs.Halts.{IsHaltOf, IsRefusalOf};
 
+use crate::entries::{Purpose, files_in};
 use crate::{Finding, Halt};
 use sq_base::{List, Listing, Name, Place, Refusal, Tree, TreeFault};
 use std::alloc::{AllocError, Global};
@@ -123,7 +125,7 @@ fn one_path(alloc: Global, path: &str) -> Result<List<Name>, AllocError>
 }
 
 /// The file that is found at a path.
-fn found(alloc: Global, path: &str) -> Result<List<Name>, Halt>
+fn found_file(alloc: Global, path: &str) -> Result<List<Name>, Halt>
     ensures { Judges (Ok (path.now ∷ [])) result }
 {
     match one_path(alloc, path) {
@@ -132,13 +134,33 @@ fn found(alloc: Global, path: &str) -> Result<List<Name>, Halt>
     }
 }
 
-/// Lists a path, at which there is to be a file.
-pub fn want_file<T: Tree>(alloc: Global, tree: &mut T, path: &str) -> Result<List<Name>, Halt>
-    ensures { Follows (wanted_file path.now) (T.state tree.old) (T.state tree.new) result }
+/// The files that are found in a folder with these entries.
+fn found_files(
+    alloc: Global,
+    purpose: Purpose,
+    folder: &str,
+    names: List<Name>,
+) -> Result<List<Name>, Halt>
+    ensures { Judges (Ok (Sources.files_in purpose folder.now names)) result }
+{
+    match files_in(alloc, purpose, folder, names) {
+        Ok(paths) => Ok(paths),
+        Err(_) => Err(Halt::Memory),
+    }
+}
+
+/// Lists a path: a file stands for itself, and a folder for its entries that are read.
+pub fn list_path<T: Tree>(
+    alloc: Global,
+    tree: &mut T,
+    purpose: Purpose,
+    path: &str,
+) -> Result<List<Name>, Halt>
+    ensures { Follows (listed purpose path.now) (T.state tree.old) (T.state tree.new) result }
 {
     match tree.list(alloc, path) {
-        Ok(Listing::File) => found(alloc, path),
-        Ok(Listing::Folder(_)) => Err(refuse(alloc, Role::Source, path)),
+        Ok(Listing::File) => found_file(alloc, path),
+        Ok(Listing::Folder(names)) => found_files(alloc, purpose, path, names),
         Err(fault) => Err(halt(alloc, path, fault)),
     }
 }

@@ -14,6 +14,7 @@ use sq_core::{
     typed_is_never_stuck,
 };
 use sq_lexer::printed_tokens_are_read_again;
+use sq_migrate::{empty_is_catalogue, replay_keeps};
 use sq_reader::reads_as_written;
 use std::alloc::Global;
 
@@ -70,6 +71,8 @@ pub fn sqlc<T: Tree, O: Out, S: Sink>(
     // Where the answer is `Done`, the files read back as exactly the annotated queries, whose texts run as they say.
     ensures headline { Headline (map string_bytes words.items) (outside (T.state tree.old) (O.state out.old) (S.state screen.old)) (outside (T.state tree.new) (O.state out.new) (S.state screen.new)) result }
 {
+    empty_is_catalogue();
+    replay_keeps();
     typed_is_never_stuck();
     select_of_columns_is_typed();
     identifiers_are_words();

@@ -1,15 +1,18 @@
-//! The files of one key of a block: its paths are listed, and then their files are read.
+//! The files of one key of a block: its paths are listed, and then the files that they stand for are read.
 
 ghost use Rattle.std.specs.Prelude.{◌≡◌, ◌∷◌, ◌≤◌, ◌<◌, [], length, IfOk};
 ghost use Rattle.sq_lexer.specs.TokenList.{token_list};
 ghost use Rattle.sq_run.specs.Asked.{Follows, Judges, gathered};
 ghost use Rattle.sq_run.specs.Project;
-ghost use Rattle.sq_run.specs.Project.{counted, source, sources, wanted_file, with_tokens};
+ghost use Rattle.sq_run.specs.Project.{counted, listed, source, sources, with_tokens};
+ghost use Rattle.sq_run.specs.Sources.{bytes_read};
 ghost use Rattle.sq_run.specs.declared.read.TheConstants.{LIMIT};
 
 use crate::Halt;
+use crate::entries::Purpose;
 use crate::joining::{ending, join};
-use crate::read::{Role, read_whole, refuse_file, refuse_source, want_file};
+use crate::read::{Role, list_path, read_whole, refuse_file, refuse_source};
+use crate::rollback::before_rollback;
 use sq_base::{Fault, List, Name, Tree};
 use sq_lexer::tokens;
 use sq_syntax::Token;
@@ -25,13 +28,18 @@ pub struct SourceFile {
     pub tokens: List<Token>,
 }
 
-/// Lists the paths of a key, at each of which there is to be a file.
-fn list_paths<T: Tree>(alloc: Global, tree: &mut T, paths: &[Name]) -> Result<List<Name>, Halt>
-    ensures { Follows (gathered (λ _ path. wanted_file path) 0 paths.now) (T.state tree.old) (T.state tree.new) result }
+/// Lists the paths of a key.
+fn list_paths<T: Tree>(
+    alloc: Global,
+    tree: &mut T,
+    purpose: Purpose,
+    paths: &[Name],
+) -> Result<List<Name>, Halt>
+    ensures { Follows (gathered (λ _ path. listed purpose path) 0 paths.now) (T.state tree.old) (T.state tree.new) result }
 {
     let mut so_far = Ok(List::new(alloc));
     for path in paths {
-        so_far = join(so_far, want_file(alloc, tree, path.as_str()))?;
+        so_far = join(so_far, list_path(alloc, tree, purpose, path.as_str()))?;
     }
     ending(so_far)
 }
@@ -78,43 +86,61 @@ fn source_of(alloc: Global, number: u32, path: &str, bytes: &[u8]) -> Result<Lis
     }
 }
 
+/// The bytes of a file that are read for this purpose.
+fn bytes_read(purpose: Purpose, bytes: &[u8]) -> &[u8]
+    ensures is { result.now ≡ bytes_read purpose bytes.now }
+    ensures within { length result.now ≤ length bytes.now }
+{
+    match purpose {
+        Purpose::Schema => before_rollback(bytes),
+        Purpose::Queries => bytes,
+    }
+}
+
 /// Reads the source at a path, which has this number among those of its key.
 fn read_source<T: Tree>(
     alloc: Global,
     tree: &mut T,
+    purpose: Purpose,
     number: u32,
     path: &str,
 ) -> Result<List<SourceFile>, Halt>
-    ensures { Follows (source number path.now) (T.state tree.old) (T.state tree.new) result }
+    ensures { Follows (source purpose number path.now) (T.state tree.old) (T.state tree.new) result }
 {
     let bytes = read_whole(alloc, tree, Role::Source, path)?;
-    source_of(alloc, number, path, bytes.as_slice())
+    source_of(alloc, number, path, bytes_read(purpose, bytes.as_slice()))
 }
 
 /// Reads the sources at these paths.
-fn read_all<T: Tree>(alloc: Global, tree: &mut T, paths: &[Name]) -> Result<List<SourceFile>, Halt>
+fn read_all<T: Tree>(
+    alloc: Global,
+    tree: &mut T,
+    purpose: Purpose,
+    paths: &[Name],
+) -> Result<List<SourceFile>, Halt>
     requires { length paths.now ≤ MOST_FILES }
-    ensures { Follows (gathered source 0 paths.now) (T.state tree.old) (T.state tree.new) result }
+    ensures { Follows (gathered (source purpose) 0 paths.now) (T.state tree.old) (T.state tree.new) result }
 {
     let mut so_far = Ok(List::new(alloc));
     for (number, path) in paths.iter().enumerate() {
         so_far = join(
             so_far,
-            read_source(alloc, tree, number as u32, path.as_str()),
+            read_source(alloc, tree, purpose, number as u32, path.as_str()),
         )?;
     }
     ending(so_far)
 }
 
-/// Lists the paths of a key, and then reads their files.
+/// Lists the paths of a key, and then reads the files that they stand for.
 pub fn read_sources<T: Tree>(
     alloc: Global,
     tree: &mut T,
+    purpose: Purpose,
     paths: &[Name],
 ) -> Result<List<SourceFile>, Halt>
-    ensures { Follows (sources paths.now) (T.state tree.old) (T.state tree.new) result }
+    ensures { Follows (sources purpose paths.now) (T.state tree.old) (T.state tree.new) result }
 {
-    let found = list_paths(alloc, tree, paths)?;
+    let found = list_paths(alloc, tree, purpose, paths)?;
     let few = counted(alloc, found)?;
-    read_all(alloc, tree, few.as_slice())
+    read_all(alloc, tree, purpose, few.as_slice())
 }

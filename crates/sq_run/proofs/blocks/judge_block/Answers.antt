@@ -2,6 +2,8 @@ use Rattle.std.proofs.Common.{◌≡◌, ℕ, List, Result, Ok, Err, subst}
 use Rattle.std.proofs.lemmas.Result.{err_from_is_err_and}
 use Rattle.sq_base.specs.Tree.{TreeState}
 use Rattle.sq_core.specs.declared.declaration.QueryFile.{QueryFile}
+use Rattle.sq_run.specs.declared.entries.Purpose.{Purpose}
+use Rattle.sq_run.specs.declared.entries.Purpose.TheVariants.{Schema, Queries}
 use Rattle.sq_run.specs.declared.halt.Finding.{Finding}
 use Rattle.sq_run.specs.declared.halt.Halt.{Halt}
 use Rattle.sq_run.specs.declared.sources.SourceFile.{SourceFile}
@@ -11,8 +13,8 @@ use Rattle.sq_run.proofs.Steps.{followed, stopped, judged_follows}
 use Rattle.sq_run.proofs.blocks.judge_block.Goals as goal
 
 -- the sources at these paths were read
-sources_read : {paths given : List (List ℕ)} {old new : TreeState} {r : Result (List SourceFile) Halt} → given ≡ paths → Follows (sources given) old new r → Follows (sources paths) old new r
-sources_read {old = old} {new = new} {r = r} is = subst (λ (ps : List (List ℕ)). Follows (sources ps) old new r) is
+sources_read : (purpose : Purpose) {paths given : List (List ℕ)} {old new : TreeState} {r : Result (List SourceFile) Halt} → given ≡ paths → Follows (sources purpose given) old new r → Follows (sources purpose paths) old new r
+sources_read purpose {old = old} {new = new} {r = r} is = subst (λ (ps : List (List ℕ)). Follows (sources purpose ps) old new r) is
 
 -- these items were judged
 items_judged : {A B : Type 0} (judge : A → Result (List B) (List Finding)) {items given : List A} (r : Result (List B) Halt) → given ≡ items → Judges (each_judged judge given) r → Judges (each_judged judge items) r
@@ -30,7 +32,7 @@ returns-in_err-schema g c =
     rw (p.1, p.2)
     (followed _ _ _ _ _ _ _ (judged_follows (each_judged (output_of_entry c.args.configuration.now) c.args.block.now.entries) _ (Ok c.in_ok-outputs.outputs)
     (items_judged (output_of_entry c.args.configuration.now) (Ok c.in_ok-outputs.outputs) c.as_slice.ensures c.in_ok-outputs.ensures))
-    (stopped _ _ _ _ _ (sources_read c.as_slice-2.ensures c.in_err-schema.ensures)))
+    (stopped _ _ _ _ _ (sources_read Schema c.as_slice-2.ensures c.in_err-schema.ensures)))
 
 pub returns-in_err-sources : goal.returns-in_err-sources
 returns-in_err-sources g c =
@@ -38,9 +40,9 @@ returns-in_err-sources g c =
     rw (p.1, p.2)
     (followed _ _ _ _ _ _ _ (judged_follows (each_judged (output_of_entry c.args.configuration.now) c.args.block.now.entries) _ (Ok c.in_ok-outputs.outputs)
     (items_judged (output_of_entry c.args.configuration.now) (Ok c.in_ok-outputs.outputs) c.as_slice.ensures c.in_ok-outputs.ensures))
-    (followed _ _ _ _ _ _ _ (sources_read c.as_slice-2.ensures c.in_ok-schema.ensures)
+    (followed _ _ _ _ _ _ _ (sources_read Schema c.as_slice-2.ensures c.in_ok-schema.ensures)
     (followed _ _ _ _ _ _ _ (judged_follows (catalogue_of c.args.configuration.now c.in_ok-schema.schema) _ (Ok c.in_ok-catalogue.catalogue) c.in_ok-catalogue.ensures)
-    (stopped _ _ _ _ _ (sources_read c.as_slice-3.ensures c.in_err-sources.ensures)))))
+    (stopped _ _ _ _ _ (sources_read Queries c.as_slice-3.ensures c.in_err-sources.ensures)))))
 
 pub returns-in_err-queries : goal.returns-in_err-queries
 returns-in_err-queries g c =
@@ -48,9 +50,9 @@ returns-in_err-queries g c =
     rw (p.1, p.2)
     (followed _ _ _ _ _ _ _ (judged_follows (each_judged (output_of_entry c.args.configuration.now) c.args.block.now.entries) _ (Ok c.in_ok-outputs.outputs)
     (items_judged (output_of_entry c.args.configuration.now) (Ok c.in_ok-outputs.outputs) c.as_slice.ensures c.in_ok-outputs.ensures))
-    (followed _ _ _ _ _ _ _ (sources_read c.as_slice-2.ensures c.in_ok-schema.ensures)
+    (followed _ _ _ _ _ _ _ (sources_read Schema c.as_slice-2.ensures c.in_ok-schema.ensures)
     (followed _ _ _ _ _ _ _ (judged_follows (catalogue_of c.args.configuration.now c.in_ok-schema.schema) _ (Ok c.in_ok-catalogue.catalogue) c.in_ok-catalogue.ensures)
-    (followed _ _ _ _ _ _ _ (sources_read c.as_slice-3.ensures c.in_ok-sources.ensures)
+    (followed _ _ _ _ _ _ _ (sources_read Queries c.as_slice-3.ensures c.in_ok-sources.ensures)
     (stopped _ _ _ _ _ (judged_follows (each_judged (declared_in c.in_ok-catalogue.catalogue) c.in_ok-sources.sources) _ (Err c.in_err-queries.field-0.0)
     (items_judged (declared_in c.in_ok-catalogue.catalogue) (Err c.in_err-queries.field-0.0) c.as_slice-4.ensures c.in_err-queries.ensures)))))))
 
@@ -59,9 +61,9 @@ returns g c =
     let judge = written c.args.configuration.now (models_of c.in_ok-catalogue.catalogue) in
     followed _ _ _ _ _ _ _ (judged_follows (each_judged (output_of_entry c.args.configuration.now) c.args.block.now.entries) _ (Ok c.in_ok-outputs.outputs)
     (items_judged (output_of_entry c.args.configuration.now) (Ok c.in_ok-outputs.outputs) c.as_slice.ensures c.in_ok-outputs.ensures))
-    (followed _ _ _ _ _ _ _ (sources_read c.as_slice-2.ensures c.in_ok-schema.ensures)
+    (followed _ _ _ _ _ _ _ (sources_read Schema c.as_slice-2.ensures c.in_ok-schema.ensures)
     (followed _ _ _ _ _ _ _ (judged_follows (catalogue_of c.args.configuration.now c.in_ok-schema.schema) _ (Ok c.in_ok-catalogue.catalogue) c.in_ok-catalogue.ensures)
-    (followed _ _ _ _ _ _ _ (sources_read c.as_slice-3.ensures c.in_ok-sources.ensures)
+    (followed _ _ _ _ _ _ _ (sources_read Queries c.as_slice-3.ensures c.in_ok-sources.ensures)
     (followed _ _ _ _ _ _ _ (judged_follows (each_judged (declared_in c.in_ok-catalogue.catalogue) c.in_ok-sources.sources) _ (Ok c.in_ok-queries.queries)
     (items_judged (declared_in c.in_ok-catalogue.catalogue) (Ok c.in_ok-queries.queries) c.as_slice-4.ensures c.in_ok-queries.ensures))
     (judged_follows (each_judged (judge c.in_ok-queries.queries) c.in_ok-outputs.outputs) _ c.write.result

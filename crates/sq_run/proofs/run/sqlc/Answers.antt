@@ -28,6 +28,8 @@ returns-clause-calls g c = rw (← c.as_slice.ensures.value) (within c.run.ensur
 pub returns-clause-headline : goal.returns-clause-headline
 returns-clause-headline g c =
     let laws : Laws = record {
+      begins = c.empty_is_catalogue.ensures;
+      replays = c.replay_keeps.ensures;
       sound = c.typed_is_never_stuck.ensures;
       typed = c.select_of_columns_is_typed.ensures;
       read = c.reads_as_written.ensures;

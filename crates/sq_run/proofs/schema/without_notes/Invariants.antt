@@ -1,5 +1,5 @@
 use Rattle.std.proofs.Common.{◌≡◌, ◌++◌}
-use Rattle.sq_run.specs.Project.{without_notes}
+use Rattle.sq_run.specs.Schema.{without_notes}
 use Rattle.sq_run.proofs.schema.without_notes.Given as goal
 
 abbrev pub invariant-loop-token : goal.invariant-loop-token

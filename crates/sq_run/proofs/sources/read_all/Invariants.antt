@@ -8,5 +8,5 @@ use Rattle.sq_run.proofs.sources.read_all.Given as goal
 
 abbrev pub invariant-loop-number : goal.invariant-loop-number
 invariant-loop-number g l =
-    (new : TreeState) (r : Result (List SourceFile) Halt) → Follows (gathered source l.number (drop l.number l.paths)) (g.T.Tree.state l.tree) new r
-    → Follows (gathered source 0 l.paths) (g.T.Tree.state l.fn.tree) new (ended_with l.so_far r)
+    (new : TreeState) (r : Result (List SourceFile) Halt) → Follows (gathered (source l.purpose) l.number (drop l.number l.paths)) (g.T.Tree.state l.tree) new r
+    → Follows (gathered (source l.purpose) 0 l.paths) (g.T.Tree.state l.fn.tree) new (ended_with l.so_far r)

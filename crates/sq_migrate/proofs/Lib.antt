@@ -1,0 +1,11 @@
+pub mod Answered
+pub mod Apart
+pub mod ChangesKept
+pub mod ColumnsKept
+pub mod Gathered
+pub mod HeldKept
+pub mod IdsKept
+pub mod ReplayKept
+pub mod TypesAsked
+pub mod TypesFall
+pub mod TypesStay

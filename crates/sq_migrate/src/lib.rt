@@ -1,0 +1,15 @@
+//! The replay of schema statements over a catalogue.
+#![tactic(auto)]
+
+mod asking;
+mod columns;
+mod labels;
+mod laws;
+mod names;
+mod replaying;
+mod tables;
+mod types;
+
+pub use laws::{empty_is_catalogue, replay_keeps};
+pub use replaying::replay;
+pub use types::{Typed, type_of};

@@ -1,0 +1,150 @@
+-- The catalogue that the files of a schema make, statement by statement.
+use Rattle.std.specs.Prelude.{ℕ, nat_lt, ◌&&◌, not, Bool, true, false, if◌then◌else◌, List, [], ◌∷◌, ◌++◌, length, map, filter, codes, Option, None, Some, is_some, slice_get, Result, Ok, Err}
+use Rattle.std.specs.List.{list_all, slice_split}
+use Rattle.sq_base.specs.declared.refusal.Refusal.{Refusal}
+use Rattle.sq_base.specs.declared.types.PgType.{PgType}
+use Rattle.sq_base.specs.declared.types.Scalar.{Scalar}
+use Rattle.sq_base.specs.declared.types.Scalar.TheVariants.{SmallInt, Integer, BigInt, Boolean, Text}
+use Rattle.sq_catalog.specs.Contents.{Contents}
+use Rattle.sq_catalog.specs.Catalogue.{empty}
+use Rattle.sq_catalog.specs.declared.table.Column.{Column}
+use Rattle.sq_catalog.specs.declared.table.Table.{Table}
+use Rattle.sq_grammar.specs.Schemas.{ddl}
+use Rattle.sq_grammar.specs.Whole.{whole}
+use Rattle.sq_lexemes.specs.Answers.{first_place}
+use Rattle.sq_migrate.specs.Replay.{Replayed, replayed}
+use Rattle.sq_parse_stmt.specs.PassedOver.{passed_over}
+use Rattle.sq_syntax.specs.Grammar.{nesting_depth}
+use Rattle.sq_syntax.specs.Symbols.{lexeme}
+use Rattle.sq_syntax.specs.Tokens.{refusal}
+use Rattle.sq_syntax.specs.declared.ddl.Ddl.{Ddl}
+use Rattle.sq_syntax.specs.declared.token.Token.{Token}
+use Rattle.sq_syntax.specs.declared.token.TokenKind.{TokenKind}
+use Rattle.sq_syntax.specs.declared.token.TokenKind.TheVariants.{Note, Punct}
+use Rattle.sq_run.specs.declared.halt.Finding.{Finding}
+use Rattle.sq_run.specs.declared.halt.Finding.TheVariants.{Configuration as InConfiguration, Source as InSource}
+use Rattle.sq_run.specs.declared.sources.SourceFile.{SourceFile}
+use Rattle.sq_run.specs.Statements.{is}
+
+-- READING
+
+-- whether a token isn't a comment that names a query: a schema has no use for these
+abbrev pub is_no_note : TokenKind → Bool
+is_no_note Note = false
+is_no_note _ = true
+
+-- the tokens of a schema
+abbrev pub without_notes : List Token → List Token
+without_notes tokens = filter (λ (token : Token). is_no_note token.kind) tokens
+
+-- whether a token ends a statement
+abbrev pub is_end : Token → Bool
+is_end token = is Punct (codes ";") token
+
+-- the statements of a file: what stands before, between and behind its semicolons
+abbrev pub statements : List Token → List (List Token)
+statements tokens = slice_split is_end tokens
+
+-- the statement that was read, or the refusal (6) of tokens that spell none
+abbrev pub spelled : List Token → Option Ddl → Result (Option Ddl) Refusal
+spelled tokens (Some statement) = Ok (Some statement)
+spelled tokens None = Err (refusal 6 (first_place tokens))
+
+-- the statement that tokens spell, where they are not too many (4) and do not nest too deep (5)
+abbrev pub read_within : List Token → Result (Option Ddl) Refusal
+read_within tokens =
+    if nat_lt 16384 (length tokens) then Err (refusal 4 (first_place tokens))
+    else (if nat_lt 64 (nesting_depth tokens) then Err (refusal 5 (first_place tokens)) else spelled tokens (whole ddl tokens))
+
+-- the statement that tokens spell, and none where they are passed over; each refusal is at the first token
+unfoldable pub read_ddl : List Token → Result (Option Ddl) Refusal
+read_ddl tokens = if passed_over (map lexeme tokens) then Ok None else read_within tokens
+
+-- REPLAY
+
+-- what a statement makes of the catalogue
+unfoldable pub replay_of : Contents → Ddl → Replayed
+replay_of contents statement = replayed contents (statement ∷ [])
+
+-- what has been made so far, and what was refused
+pub record Made : Type 0 where
+  pub contents : Contents
+  pub findings : List Finding
+
+abbrev pub made : Contents → List Finding → Made
+made contents findings = record { contents = contents; findings = findings }
+
+-- refusals in the file at a path
+abbrev pub found_at : List ℕ → List Refusal → List Finding
+found_at path refusals = map (λ refusal. InSource path refusal) refusals
+
+-- a statement was replayed
+abbrev pub after_replay : List ℕ → List Finding → Replayed → Made
+after_replay path findings done = made done.catalogue (findings ++ found_at path done.refusals)
+
+-- what was read is replayed; what is refused is left out, and listed
+abbrev pub after_read : List ℕ → Made → Result (Option Ddl) Refusal → Made
+after_read path so_far (Ok None) = so_far
+after_read path so_far (Ok (Some statement)) = after_replay path so_far.findings (replay_of so_far.contents statement)
+after_read path so_far (Err refused) = made so_far.contents (so_far.findings ++ found_at path (refused ∷ []))
+
+-- a statement of a file; one without a token is passed over
+abbrev pub after_statement : List ℕ → Made → List Token → Made
+after_statement path so_far [] = so_far
+after_statement path so_far (token ∷ tokens) = after_read path so_far (read_ddl (token ∷ tokens))
+
+-- the statements of a file, in order
+abbrev pub after_statements : List ℕ → Made → List (List Token) → Made
+after_statements path so_far [] = so_far
+after_statements path so_far (statement ∷ later) = after_statements path (after_statement path so_far statement) later
+
+-- a file
+abbrev pub after_file : Made → SourceFile → Made
+after_file so_far file = after_statements file.path so_far (statements (without_notes file.tokens))
+
+-- files, in order
+abbrev pub after_files : Made → List SourceFile → Made
+after_files so_far [] = so_far
+after_files so_far (file ∷ files) = after_files (after_file so_far file) files
+
+-- all files of a schema
+abbrev pub all_made : List SourceFile → Made
+all_made schema = after_files (made empty []) schema
+
+-- WHAT IS BUILT SO FAR
+
+-- the scalar types whose forms are built: smallint, integer, bigint, boolean and text
+abbrev pub is_first_scalar : Scalar → Bool
+is_first_scalar SmallInt = true
+is_first_scalar Integer = true
+is_first_scalar BigInt = true
+is_first_scalar Boolean = true
+is_first_scalar Text = true
+is_first_scalar _ = false
+
+-- one of these types, and no array
+abbrev pub is_first : PgType → Bool
+is_first of = not of.array && is_first_scalar of.scalar
+
+-- whether a table's columns have these types
+abbrev pub has_first_types : Table → Bool
+has_first_types table = list_all (λ (column : Column). is_first column.of) table.columns
+
+abbrev pub has_enums : Contents → Bool
+has_enums contents = is_some (slice_get contents.enums 0)
+
+abbrev pub has_domains : Contents → Bool
+has_domains contents = is_some (slice_get contents.domains 0)
+
+-- no enumerations, no domains, and no columns of other types
+abbrev pub is_built : Contents → Bool
+is_built contents = not (has_enums contents) && (not (has_domains contents) && list_all has_first_types contents.tables)
+
+-- the catalogue of a schema without a refusal, or a form that isn't built yet
+abbrev pub catalogue_by : List ℕ → Contents → List Finding → Result Contents (List Finding)
+catalogue_by path contents [] = if is_built contents then Ok contents else Err (InConfiguration path 99 [] ∷ [])
+catalogue_by path contents (finding ∷ findings) = Err (finding ∷ findings)
+
+-- what a schema is judged to be, of a block in the configuration at this path
+abbrev pub catalogue_of : List ℕ → List SourceFile → Result Contents (List Finding)
+catalogue_of path schema = catalogue_by path (all_made schema).contents (all_made schema).findings

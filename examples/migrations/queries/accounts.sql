@@ -1,0 +1,2 @@
+-- name: ListAccounts :many
+SELECT id, holder, balance, branch, closed FROM accounts;

@@ -1,0 +1,2 @@
+-- name: ListCities :many
+SELECT code, city FROM branches;

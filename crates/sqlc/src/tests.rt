@@ -407,7 +407,7 @@ const SCHEMAS: [(&str, &str); 38] = [
 ];
 
 /// Schemas of several statements, and the line or lines that each is refused with over the same query.
-const STATEMENTS: [(&str, &str); 26] = [
+const STATEMENTS: [(&str, &str); 31] = [
     (
         "CREATE TABLE u (a text); CREATE TABLE t (id integer, name text); CREATE TABLE v (b integer NOT NULL);",
         "",
@@ -500,6 +500,23 @@ const STATEMENTS: [(&str, &str); 26] = [
         CONFIGURATION_NOT_YET,
     ),
     ("CREATE TABLE t (id bigint NOT NULL, name boolean);", ""),
+    (
+        "CREATE TABLE t (a int); CREATE TABLE t (a int);",
+        "schema.sql:1:25: [80] Exists t\n",
+    ),
+    ("DROP TABLE nope;", "schema.sql:1:1: [81] Missing nope\n"),
+    (
+        "CREATE TYPE e AS ENUM ('a'); CREATE TABLE t (c e); DROP TYPE e;",
+        "schema.sql:1:52: [82] InUse e\n",
+    ),
+    (
+        "CREATE TABLE t (a int PRIMARY KEY); ALTER TABLE t ALTER COLUMN a DROP NOT NULL;",
+        "schema.sql:1:37: [83] InPrimaryKey a\n",
+    ),
+    (
+        "CREATE TABLE s.t (a int);",
+        "schema.sql:1:14: [16] UnknownSchema s\n",
+    ),
 ];
 
 /// Query files over the schema `t`, and the line that each is refused with; none where it is accepted.

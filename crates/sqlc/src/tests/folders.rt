@@ -1,6 +1,8 @@
 //! What a folder stands for, and where a schema file ends.
 
-use crate::tests::{LISTS, QUERY, Request, SCHEMA, is_met, judges_as};
+use crate::tests::{LISTS, NONE, QUERY, Request, SCHEMA, file, is_met, judges_as, run_over};
+use sq_base::List;
+use std::alloc::{AllocError, Global};
 use std::process::Abort;
 use std::test::Fail;
 
@@ -306,6 +308,109 @@ const MARKED: [(&str, &str); 20] = [
         "schema.sql:1:1: [1] Unterminated\n",
     ),
 ];
+
+/// Folders of migrations, and the end of the models that are written for their schema.
+const MIGRATIONS: [(&[(&str, &str)], &str); 6] = [
+    (
+        &[
+            (
+                "s/001_a.sql",
+                "CREATE TABLE t (id int PRIMARY KEY, a text);\n-- +goose Down\nDROP TABLE t;\n",
+            ),
+            (
+                "s/002_b.sql",
+                "ALTER TABLE t ADD COLUMN b boolean NOT NULL; ALTER TABLE t RENAME COLUMN a TO c;\n",
+            ),
+            ("s/003_c.up.sql", "ALTER TABLE t DROP COLUMN b;\n"),
+            ("s/003_c.down.sql", "DROP TABLE t;\n"),
+        ],
+        "type T struct {\n\tID int32\n\tC sql.NullString\n}\n",
+    ),
+    (
+        &[
+            (
+                "s/20240102_users.sql",
+                "-- +goose Up\n-- +goose StatementBegin\nALTER TABLE users ADD COLUMN admin boolean NOT NULL DEFAULT false;\n-- +goose StatementEnd\n\n-- +goose Down\nALTER TABLE users DROP COLUMN admin;\n",
+            ),
+            (
+                "s/20240101_users.sql",
+                "-- +goose Up\nCREATE TABLE users (id bigserial PRIMARY KEY, mail text NOT NULL UNIQUE);\nCREATE INDEX users_mail ON users (lower(mail));\n-- +goose Down\nDROP TABLE users;\n",
+            ),
+        ],
+        "type User struct {\n\tID int64\n\tMail string\n\tAdmin bool\n}\n",
+    ),
+    (
+        &[
+            (
+                "s/1.sql",
+                "-- +migrate Up\nCREATE TABLE a (x smallint);\nCREATE TABLE b (y integer NOT NULL);\n-- +migrate Down\nDROP TABLE b, a;\n",
+            ),
+            (
+                "s/2.sql",
+                "-- +migrate Up notransaction\nALTER TABLE a RENAME TO c;\nALTER TABLE c ALTER COLUMN x TYPE bigint, ALTER x SET NOT NULL;\n-- +migrate Down\nALTER TABLE c RENAME TO a;\n",
+            ),
+        ],
+        "type C struct {\n\tX int64\n}\n\ntype B struct {\n\tY int32\n}\n",
+    ),
+    (
+        &[
+            (
+                "s/1_init.sql",
+                "-- migrate:up\nCREATE TYPE mood AS ENUM ('sad', 'ok');\nCREATE TABLE t (id integer, m mood);\n-- migrate:down\nDROP TABLE t;\n",
+            ),
+            (
+                "s/2_no_mood.sql",
+                "-- migrate:up transaction:false\nDROP TYPE mood CASCADE;\n-- migrate:down\n",
+            ),
+        ],
+        "type T struct {\n\tID sql.NullInt32\n}\n",
+    ),
+    (
+        &[
+            (
+                "s/001_create.sql",
+                "CREATE TABLE t (id integer NOT NULL);\n---- create above / drop below ----\nDROP TABLE t;\n",
+            ),
+            (
+                "s/002_key.sql",
+                "ALTER TABLE t ADD COLUMN k bigint;\nALTER TABLE t ADD PRIMARY KEY (k);\nALTER TABLE t DROP COLUMN id;\n---- create above / drop below ----\n",
+            ),
+        ],
+        "type T struct {\n\tK int64\n}\n",
+    ),
+    (
+        &[
+            ("s/1_t.up.sql", "CREATE TABLE t (a boolean);\n"),
+            ("s/1_t.down.sql", "DROP TABLE t;\n"),
+            ("s/2_u.up.sql", "DROP TABLE t;\nCREATE TABLE u (b text);\n"),
+            ("s/2_u.down.sql", "DROP TABLE u;\n"),
+        ],
+        "type U struct {\n\tB sql.NullString\n}\n",
+    ),
+];
+
+/// Whether the models that are written for a folder of migrations end so.
+fn models_end(alloc: Global, migrations: &[(&str, &str)], want: &str) -> Result<bool, AllocError> {
+    let mut files = List::new(alloc);
+    files.push(file(alloc, "sqlc.json", FOLDERS)?)?;
+    files.push(file(alloc, "q/readme.md", "No queries.")?)?;
+    for (path, text) in migrations {
+        files.push(file(alloc, path, text)?)?;
+    }
+    let left = run_over(alloc, &["generate"], files, NONE)?;
+    match left.out.files().get(1) {
+        Some(models) => Ok(models.bytes.as_slice().ends_with(want.as_bytes())),
+        None => Ok(false),
+    }
+}
+
+#[test]
+fn folders_of_migrations_have_their_models(rt: HostRuntime) -> Result<(), Fail> {
+    for (migrations, want) in &MIGRATIONS {
+        assert!(rt; models_end(rt.alloc(), migrations, want)?, "without {want}");
+    }
+    Ok(())
+}
 
 #[test]
 fn each_request_of_folders_is_met(rt: HostRuntime) -> Result<(), Fail> {

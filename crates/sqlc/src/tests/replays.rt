@@ -175,6 +175,9 @@ fn is_semicolon(token: &Token) -> bool {
 }
 
 fn read_statement(alloc: Global, read: &mut List<Ddl>, tokens: &[Token]) -> Result<(), Fault> {
+    if tokens.is_empty() {
+        return Ok(());
+    }
     if let Some(statement) = ddl(alloc, tokens)? {
         read.push(statement)?;
     }
@@ -720,6 +723,22 @@ const NAMES: [(&str, &str); 13] = [
     ("CREATE TABLE t (a nope, b nada)", "15 nope 1:19"),
 ];
 
+/// A dump of a schema, as pg_dump writes it.
+const DUMP: &str = "SET statement_timeout = 0;
+SELECT pg_catalog.set_config('search_path', '', false);
+CREATE TABLE public.authors (
+    id bigint NOT NULL,
+    name text NOT NULL,
+    bio text
+);
+ALTER TABLE public.authors OWNER TO app;
+CREATE SEQUENCE public.authors_id_seq START WITH 1 INCREMENT BY 1;
+ALTER TABLE public.authors_id_seq OWNER TO app;
+ALTER TABLE ONLY public.authors ALTER COLUMN id SET DEFAULT nextval('public.authors_id_seq'::regclass);
+ALTER TABLE ONLY public.authors
+    ADD CONSTRAINT authors_pkey PRIMARY KEY (id);
+";
+
 /// Columns of a table that is made, and how the answer ends once another one is to be added.
 const WIDE: [(usize, &str); 3] = [
     (1599, ", c1598 integer, last integer); "),
@@ -788,6 +807,12 @@ fn a_table_has_1600_columns_at_most(rt: HostRuntime) -> Result<(), Fail> {
         assert!(rt; found.as_str().ends_with(want), "{columns}: {found}");
     }
     Ok(())
+}
+
+#[test]
+fn a_dump_is_replayed(rt: HostRuntime) -> Result<(), Fail> {
+    let want = "authors(id bigint!, name text!, bio text) key authors_pkey(id)";
+    check(&rt, rt.alloc(), &[(DUMP, want)])
 }
 
 #[test]

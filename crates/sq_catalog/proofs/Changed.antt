@@ -1,6 +1,5 @@
 -- A change of what stands at a place is one of the whole.
-use Rattle.std.proofs.Common.{◌≡◌, ◌<◌, ◌+◌, ℕ, suc, zero, Bool, true, false, List, [], ◌∷◌, length, get_or, set, drop, Option, Some, None, Result, Ok, Err, refl, sym, ap, subst, ◌∙◌, arith, add-one}
-use Rattle.std.specs.List.{slice_get}
+use Rattle.std.proofs.Common.{◌≡◌, ◌<◌, ◌+◌, ℕ, suc, zero, true, false, List, [], ◌∷◌, length, get_or, set, drop, Option, Some, Result, Ok, Err, refl, sym, ap, subst, ◌∙◌, arith, add-one}
 use Rattle.std.specs.Option.{option_map}
 use Rattle.std.proofs.lemmas.Option.{slice_get_read}
 use Rattle.std.proofs.lemmas.List.{set-get_or}
@@ -12,7 +11,7 @@ use Rattle.sq_catalog.specs.declared.change.ChangeFault.{ChangeFault}
 use Rattle.sq_catalog.specs.declared.change.ChangeFault.TheVariants.{Exists, Missing, InUse, InPrimaryKey, TooManyColumns, Memory}
 use Rattle.sq_catalog.specs.Actions.{acted}
 use Rattle.sq_catalog.specs.Answers.{Answers, and_then}
-use Rattle.sq_catalog.specs.Catalogue.{altered, table_altered, placed_table, place_of_table, with_table_at, instead, is_repeated, repeated_column}
+use Rattle.sq_catalog.specs.Catalogue.{altered, table_altered, place_of_table, instead, is_repeated, repeated_column}
 use Rattle.sq_catalog.specs.Columns.{change_at, placed}
 use Rattle.sq_catalog.specs.Contents.{Contents}
 use Rattle.sq_catalog.proofs.ChangedAt.{written}

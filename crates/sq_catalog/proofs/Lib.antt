@@ -1,3 +1,4 @@
+mod Bases
 pub mod Changed
 pub mod ChangedAt
 pub mod Held

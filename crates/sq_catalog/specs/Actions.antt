@@ -8,7 +8,6 @@ use Rattle.sq_catalog.specs.Keys.{new_key, with_key, completed, in_key, without_
 use Rattle.sq_catalog.specs.declared.table.Column.{Column}
 use Rattle.sq_catalog.specs.declared.table.Key.{Key}
 use Rattle.sq_catalog.specs.declared.table.Table.{Table}
-use Rattle.sq_catalog.specs.declared.change.NewKey.{NewKey}
 use Rattle.sq_catalog.specs.declared.change.Keys.{Keys}
 use Rattle.sq_catalog.specs.declared.change.Action.{Action}
 use Rattle.sq_catalog.specs.declared.change.Action.TheVariants.{AddColumn, DropColumn, RenameColumn, SetNotNull, DropNotNull, SetType, AddPrimaryKey, DropConstraint, RenameConstraint}

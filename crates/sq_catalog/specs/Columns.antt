@@ -1,5 +1,5 @@
 -- Columns by their names, and what a change makes of one.
-use Rattle.std.specs.Prelude.{ℕ, Bool, List, [], ◌∷◌, zero, suc, Option, None, Some, find, position, slice_get}
+use Rattle.std.specs.Prelude.{ℕ, Bool, List, [], ◌∷◌, zero, suc, Option, position, slice_get}
 use Rattle.std.specs.Option.{option_map, option_and_then}
 use Rattle.std.specs.Str.{bytes_eq}
 use Rattle.sq_base.specs.declared.types.PgType.{PgType}

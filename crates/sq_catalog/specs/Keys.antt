@@ -1,5 +1,5 @@
 -- Primary keys (PostgreSQL manual, CREATE TABLE).
-use Rattle.std.specs.Prelude.{ℕ, ◌-◌, ◌<◌, ◌++◌, ◌==◌, Bool, false, true, if◌then◌else◌, List, [], ◌∷◌, Option, None, Some, Result, Ok, Err, codes, map, nat_lt, length}
+use Rattle.std.specs.Prelude.{ℕ, ◌-◌, ◌++◌, ◌==◌, Bool, false, true, if◌then◌else◌, List, [], ◌∷◌, Option, None, Some, Result, Ok, Err, codes, map, nat_lt, length}
 use Rattle.std.specs.List.{list_any, remove}
 use Rattle.sq_catalog.specs.Answers.{and_then}
 use Rattle.sq_catalog.specs.Columns.{place_of_column, change_at, marked}

@@ -1,5 +1,5 @@
 -- Enumerations and domains (PostgreSQL manual, CREATE TYPE, CREATE DOMAIN and ALTER TYPE).
-use Rattle.std.specs.Prelude.{ℕ, ◌+◌, ◌&&◌, ◌==◌, Bool, true, false, if◌then◌else◌, List, [], ◌∷◌, ◌++◌, Option, None, Some, find, position, Result, Ok, Err, slice_get, length}
+use Rattle.std.specs.Prelude.{ℕ, ◌+◌, ◌&&◌, ◌==◌, Bool, false, not, if◌then◌else◌, List, [], ◌∷◌, ◌++◌, Option, None, Some, find, position, Result, Ok, Err, length}
 use Rattle.std.specs.List.{list_any, insert}
 use Rattle.std.specs.Option.{option_map}
 use Rattle.std.specs.Str.{bytes_eq}
@@ -54,6 +54,24 @@ type_named c schema name = elim (enum_named c schema name) [
   | Some of ↦ Some (enum_type of)
   | None ↦ option_map domain_type (domain_named c schema name)
 ]
+
+-- whether a scalar type is this domain
+abbrev pub is_scalar_of : DomainType → Scalar → Bool
+is_scalar_of domain (Domain id) = domain.id == id
+is_scalar_of domain _ = false
+
+-- the base in the place of this domain, and every other type as it is
+abbrev pub without_domain : DomainType → PgType → PgType
+without_domain domain of = if not of.array && is_scalar_of domain of.scalar then domain.base else of
+
+-- a type without these domains, from the last to the first: a domain is made after its base
+abbrev pub base_among : List DomainType → PgType → PgType
+base_among [] of = of
+base_among (domain ∷ domains) of = without_domain domain (base_among domains of)
+
+-- the base type of a domain, where the catalogue has it, and every other type itself
+abbrev pub base : Contents → PgType → PgType
+base c of = base_among c.domains of
 
 -- the enumeration of this id
 abbrev pub enum_of : Contents → ℕ → Option EnumType

@@ -5,6 +5,10 @@ pub mod ColumnsKept
 pub mod Gathered
 pub mod HeldKept
 pub mod IdsKept
+pub mod NamesAsked
+pub mod NamesKept
+pub mod NamesReplayed
+pub mod NamesStay
 pub mod ReplayKept
 pub mod TypesAsked
 pub mod TypesFall

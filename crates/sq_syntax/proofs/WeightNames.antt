@@ -25,7 +25,7 @@ use Rattle.sq_syntax.specs.declared.expr.Nulls.{Nulls}
 use Rattle.sq_syntax.specs.declared.expr.Nulls.TheVariants as nulls
 use Rattle.sq_syntax.specs.Symbols.{identifier_reading, is_name, is_bare_label}
 use Rattle.sq_syntax.specs.Pieces as p
-use Rattle.sq_syntax.specs.Pieces.{sym as word, say, at}
+use Rattle.sq_syntax.specs.Pieces.{sym as word, say}
 use Rattle.sq_syntax.specs.ExpressionPieces as g
 use Rattle.sq_syntax.specs.Facts.{Piece}
 use Rattle.sq_syntax.specs.Parts.{Groups}

@@ -1,5 +1,5 @@
 -- The facts of an expression, by those of its parts.
-use Rattle.std.proofs.Common.{◌≡◌, ℕ, suc, ◌+◌, Bool, true, false, List, [], ◌∷◌, ◌++◌, Option, Some, None, refl, ap, ◌∙◌, append_assoc, arith, map}
+use Rattle.std.proofs.Common.{◌≡◌, ℕ, ◌+◌, Bool, true, false, List, [], ◌∷◌, ◌++◌, Option, Some, None, refl, ap, ◌∙◌, arith, map}
 use Rattle.std.specs.Prelude.{flat_map, option_map, max, not, length}
 use Rattle.std.proofs.lemmas.List.{length-map}
 use Rattle.sq_base.specs.declared.place.Place.{Place}
@@ -24,7 +24,7 @@ use Rattle.sq_syntax.specs.declared.query.Query.{Query}
 use Rattle.sq_syntax.specs.Symbols.{identifier_reading, word_reading}
 use Rattle.sq_syntax.specs.Facts.{Facts, Piece, Sort, most}
 use Rattle.sq_syntax.specs.Pieces as p
-use Rattle.sq_syntax.specs.Pieces.{Operand, sym as word, say, at}
+use Rattle.sq_syntax.specs.Pieces.{Operand, sym as word, say}
 use Rattle.sq_syntax.specs.ExpressionPieces as g
 use Rattle.sq_syntax.specs.ExpressionPieces.{expression_layer}
 use Rattle.sq_syntax.specs.Grammar.{tree_facts, expression_facts, query_facts}

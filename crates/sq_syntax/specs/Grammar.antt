@@ -84,3 +84,6 @@ height x = (tree_facts x).height
 
 abbrev pub query_height : Query → ℕ
 query_height x = (query_facts x).height
+
+abbrev pub from_height : From → ℕ
+from_height x = (from_facts x).height

@@ -19,7 +19,6 @@ pub struct Node<F> {
 /// An expression as it is written (PostgreSQL manual, section 4.2). Every choice of spelling is
 /// kept, brackets too. A chain of operators of one level is one list.
 #[cycle(trees)]
-#[derive(Drop)]
 pub enum Expression {
     Constant(Constant),
     Parameter(Parameter),
@@ -86,6 +85,82 @@ pub enum Expression {
     Not(List<Place>, Boxed<Node<Expression>>),
     And(Boxed<Node<Expression>>, Items<Joint<Node<Expression>>>),
     Or(Boxed<Node<Expression>>, Items<Joint<Node<Expression>>>),
+}
+
+// The types of the cycle have drops of their own, so that they are proved here and once: a derived
+// drop is proved anew in each crate that drops a tree.
+impl Drop for Expression {
+    #[cycle(trees)]
+    fn drop(self) {
+        match self {
+            Expression::Constant(_constant) => (),
+            Expression::Parameter(_parameter) => (),
+            Expression::Column(_name) => (),
+            Expression::TypedText(_to, _text) => (),
+            Expression::Moment(_) => (),
+            Expression::Bracketed(x) | Expression::Tested(x, _) => drop(x),
+            Expression::Cast(x, _to) => drop(x),
+            Expression::Extract(_word, x) => drop(x),
+            Expression::Converted(x, _links) => drop(x),
+            Expression::Signed(_signs, x) => drop(x),
+            Expression::Collated(x, _links) => drop(x),
+            Expression::Not(_places, x) => drop(x),
+            Expression::NullIf(x, y)
+            | Expression::Like(x, _, _, y)
+            | Expression::Compared(x, _, y)
+            | Expression::Distinct(x, _, y) => {
+                drop(x);
+                drop(y);
+            }
+            Expression::AnyArray(x, _operator, _, y) => {
+                drop(x);
+                drop(y);
+            }
+            Expression::Between(x, _, _, low, high) => {
+                drop(x);
+                drop(low);
+                drop(high);
+            }
+            Expression::Scalar(query) | Expression::Exists(query) | Expression::ArrayQuery(query) =>
+                drop(query),
+            Expression::InQuery(x, _, query) => {
+                drop(x);
+                drop(query);
+            }
+            Expression::AnyQuery(x, _operator, _, query) => {
+                drop(x);
+                drop(query);
+            }
+            Expression::ArrayList(xs) | Expression::Pooled(_, xs) => drop(xs),
+            Expression::InList(x, _, xs) => {
+                drop(x);
+                drop(xs);
+            }
+            Expression::AtTimeZone(x, links)
+            | Expression::And(x, links)
+            | Expression::Or(x, links) => {
+                drop(x);
+                drop(links);
+            }
+            Expression::Operation(x, links) => {
+                drop(x);
+                drop(links);
+            }
+            Expression::Subscript(x, indices) => {
+                drop(x);
+                drop(indices);
+            }
+            Expression::Case(x, arms, last) => {
+                drop(x);
+                drop(arms);
+                drop(last);
+            }
+            Expression::Call(_name, within, last) => {
+                drop(within);
+                drop(last);
+            }
+        }
+    }
 }
 
 /// A constant. Its bytes are those of the source.

@@ -71,6 +71,7 @@ pub use expr::Sort;
 pub use expr::Test;
 pub use item::ItemKind;
 pub use item::Stop;
+pub use measure::from_height;
 pub use measure::height;
 pub use measure::query_height;
 pub use name::ColumnName;

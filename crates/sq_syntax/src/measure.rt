@@ -3,7 +3,7 @@ ghost use Rattle.sq_syntax.specs.Grammar as spec;
 ghost use Rattle.sq_syntax.specs.Parts as parts;
 
 use crate::part::{Part, steps};
-use crate::{Expression, Node, Query};
+use crate::{Expression, From, Node, Query};
 
 fn more(part: Part<'_>) -> u32
     ensures { result ≡ min (parts.steps_of (parts.seen part.entry)) (2 ^ 32 - 1) }
@@ -43,4 +43,11 @@ pub fn query_height(tree: &Query) -> u32
     ensures { result ≡ min (spec.query_height tree.now) (2 ^ 32 - 1) }
 {
     measured(Part::Query(tree))
+}
+
+/// The greatest height of the expressions of an item of FROM, up to the last value of its type.
+pub fn from_height(tree: &From) -> u32
+    ensures { result ≡ min (spec.from_height tree.now) (2 ^ 32 - 1) }
+{
+    measured(Part::From(tree))
 }

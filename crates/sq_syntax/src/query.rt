@@ -5,7 +5,6 @@ use sqlite_items::{Boxed, Items};
 /// A query as it is written (PostgreSQL manual, SELECT). It has the place of its first token, and
 /// the numbers of its first and last token in the slice that was parsed.
 #[cycle(trees)]
-#[derive(Drop)]
 pub struct Query {
     pub place: Place,
     pub first: u32,
@@ -18,6 +17,28 @@ pub struct Query {
     pub limit: Option<Limit<Node<Expression>>>,
     pub offset: Option<Offset<Node<Expression>>>,
     pub locks: List<Lock>,
+}
+
+impl Drop for Query {
+    #[cycle(trees)]
+    fn drop(self) {
+        let Query {
+            place: _,
+            first: _,
+            last: _,
+            with,
+            body,
+            order,
+            limit,
+            offset,
+            locks: _,
+        } = self;
+        drop(with);
+        drop(body);
+        drop(order);
+        drop(limit);
+        drop(offset);
+    }
 }
 
 /// `name (columns) AS (query)`
@@ -68,16 +89,24 @@ pub enum Quantity {
 }
 
 #[cycle(trees)]
-#[derive(Drop)]
 pub enum Factor {
     Core(Select),
     /// `(query)`
     Nested(Boxed<Query>),
 }
 
+impl Drop for Factor {
+    #[cycle(trees)]
+    fn drop(self) {
+        match self {
+            Factor::Core(x) => drop(x),
+            Factor::Nested(x) => drop(x),
+        }
+    }
+}
+
 /// `SELECT .. FROM .. WHERE .. GROUP BY .. HAVING ..`
 #[cycle(trees)]
-#[derive(Drop)]
 pub struct Select {
     pub distinct: Distinctness<Node<Expression>>,
     pub outputs: Items<Node<Output<Node<Expression>>>>,
@@ -85,6 +114,26 @@ pub struct Select {
     pub condition: Option<Node<Expression>>,
     pub group: Items<Node<Expression>>,
     pub having: Option<Node<Expression>>,
+}
+
+impl Drop for Select {
+    #[cycle(trees)]
+    fn drop(self) {
+        let Select {
+            distinct,
+            outputs,
+            from,
+            condition,
+            group,
+            having,
+        } = self;
+        drop(distinct);
+        drop(outputs);
+        drop(from);
+        drop(condition);
+        drop(group);
+        drop(having);
+    }
 }
 
 /// What stands behind SELECT.
@@ -117,19 +166,39 @@ pub enum Label {
 
 /// An item of FROM: a source and what is joined to it.
 #[cycle(trees)]
-#[derive(Drop)]
 pub struct From {
     pub source: Node<Source>,
     pub joins: Items<Join>,
 }
 
+impl Drop for From {
+    #[cycle(trees)]
+    fn drop(self) {
+        let From { source, joins } = self;
+        drop(source);
+        drop(joins);
+    }
+}
+
 #[cycle(trees)]
-#[derive(Drop)]
 pub enum Join {
     /// `CROSS JOIN source`, with the place of CROSS
     Cross(Place, Node<Source>),
     /// The place of the first word, the kind, the source and its condition.
     Matched(Place, JoinKind, Node<Source>, Matched<Node<Expression>>),
+}
+
+impl Drop for Join {
+    #[cycle(trees)]
+    fn drop(self) {
+        match self {
+            Join::Cross(_, x) => drop(x),
+            Join::Matched(_, _, x, condition) => {
+                drop(x);
+                drop(condition);
+            }
+        }
+    }
 }
 
 #[derive(Clone, Copy, Debug, PartialEq, Eq)]
@@ -152,13 +221,23 @@ pub enum Matched<E> {
 }
 
 #[cycle(trees)]
-#[derive(Drop)]
 pub enum Source {
     Table(QualifiedName, Option<Alias>),
     /// `(query) alias`
     Derived(Boxed<Query>, Alias),
     /// `(from)`
     Grouped(Boxed<From>),
+}
+
+impl Drop for Source {
+    #[cycle(trees)]
+    fn drop(self) {
+        match self {
+            Source::Table(_name, _alias) => (),
+            Source::Derived(x, _alias) => drop(x),
+            Source::Grouped(x) => drop(x),
+        }
+    }
 }
 
 /// `[AS] name (columns)`

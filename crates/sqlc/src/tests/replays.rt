@@ -825,3 +825,49 @@ fn names_are_cut_to_63_bytes(rt: HostRuntime) -> Result<(), Fail> {
     assert_eq!(rt; found.as_str(), want.as_str());
     Ok(())
 }
+
+/// Statements, the name of a type that they make, and its base type.
+const BASES: &[(&str, &str, &str)] = &[
+    ("CREATE DOMAIN d AS text", "d", "text"),
+    (
+        "CREATE DOMAIN d AS integer;\nCREATE DOMAIN e AS d;\nCREATE DOMAIN f AS e",
+        "f",
+        "integer",
+    ),
+    (
+        "CREATE DOMAIN d AS integer;\nCREATE DOMAIN e AS text",
+        "d",
+        "integer",
+    ),
+    (
+        "CREATE TYPE m AS ENUM ('a');\nCREATE DOMAIN d AS text",
+        "m",
+        "enum",
+    ),
+    (
+        "CREATE TYPE m AS ENUM ('a');\nCREATE DOMAIN d AS m",
+        "d",
+        "enum",
+    ),
+    ("CREATE DOMAIN d AS text", "e", "none"),
+];
+
+/// The base type of the type of this name in the schema public.
+fn base_of(alloc: Global, text: &str, name: &str) -> Result<&'static str, Fault> {
+    let statements = read_statements(alloc, text)?;
+    let mut catalogue = Catalogue::new(alloc)?;
+    replay(alloc, &mut catalogue, &statements)?;
+    Ok(match catalogue.type_named("public", name) {
+        None => "none",
+        Some(of) => scalar_name(catalogue.base(of).scalar),
+    })
+}
+
+#[test]
+fn base_types_of_domains(rt: HostRuntime) -> Result<(), Fail> {
+    for (text, name, want) in BASES {
+        let found = base_of(rt.alloc(), text, name).unwrap_or("not replayed");
+        assert_eq!(rt; found, *want, "{text}");
+    }
+    Ok(())
+}

@@ -46,7 +46,7 @@ fn push_times(text: &mut String, part: &str, count: usize) -> Result<(), AllocEr
     Ok(())
 }
 
-const PASSED_OVER: [&str; 36] = [
+const PASSED_OVER: &[&str] = &[
     "SET statement_timeout = 0",
     "SELECT pg_catalog.set_config('search_path', '', false)",
     "WITH a AS (SELECT 1) SELECT 1",
@@ -85,7 +85,7 @@ const PASSED_OVER: [&str; 36] = [
     "DROP FUNCTION f(",
 ];
 
-const READ: [(&str, &str); 61] = [
+const READ: &[(&str, &str)] = &[
     ("CREATE SCHEMA s", "schema s"),
     (
         "CREATE SCHEMA IF NOT EXISTS \"S\" AUTHORIZATION r",
@@ -284,7 +284,7 @@ const READ: [(&str, &str); 61] = [
     ("CREATE TABLE t (a int /* x */) -- y", "table t | a int"),
 ];
 
-const REFUSED: [&str; 37] = [
+const REFUSED: &[&str] = &[
     "\"set\" x",
     "x",
     "CREATE",
@@ -337,7 +337,7 @@ fn statements_that_are_passed_over(rt: HostRuntime) -> Result<(), Fail> {
 fn statements_that_are_read(rt: HostRuntime) -> Result<(), Fail> {
     for (text, want) in READ {
         let found = answer_of(rt.alloc(), text)?;
-        assert_eq!(rt; found.as_str().trim_end(), want, "{text}");
+        assert_eq!(rt; found.as_str().trim_end(), *want, "{text}");
     }
     Ok(())
 }

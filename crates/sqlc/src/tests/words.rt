@@ -21,7 +21,7 @@ fn asked(alloc: Global, line: &str) -> Result<String, AllocError> {
 }
 
 /// Lines of words, of which each ends with a bar, and what they ask for.
-const WORDS: [(&str, &str); 28] = [
+const WORDS: &[(&str, &str)] = &[
     ("", "usage"),
     ("generate|", "Generate sqlc.json"),
     ("compile|", "Compile sqlc.json"),
@@ -56,7 +56,7 @@ const WORDS: [(&str, &str); 28] = [
 fn words_are_read_by_the_table(rt: HostRuntime) -> Result<(), Fail> {
     for (line, want) in WORDS {
         let found = asked(rt.alloc(), line)?;
-        assert_eq!(rt; found.as_str(), want, "{line}");
+        assert_eq!(rt; found.as_str(), *want, "{line}");
     }
     Ok(())
 }

@@ -1,4 +1,4 @@
-use Rattle.sq_catalog.specs.Columns.{named, typed}
+use Rattle.sq_catalog.specs.Columns.{named}
 use Rattle.sq_catalog.proofs.ChangedAt.{put_back}
 use Rattle.sq_catalog.proofs.columns.rename.Goals as goal
 

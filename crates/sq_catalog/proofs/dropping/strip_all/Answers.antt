@@ -1,4 +1,4 @@
-use Rattle.std.proofs.Common.{◌≡◌, ◌<◌, ◌≤◌, length, sym, ap, ◌∙◌, arith}
+use Rattle.std.proofs.Common.{◌<◌, ◌≤◌, length, sym, ap, ◌∙◌, arith}
 use Rattle.sq_catalog.specs.Dropping.{stripped}
 use Rattle.sq_catalog.proofs.ChangedAt.{none_changed, next_item, whole_changed}
 use Rattle.sq_catalog.proofs.dropping.strip_all.Goals as goal

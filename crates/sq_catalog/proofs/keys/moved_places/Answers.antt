@@ -1,4 +1,4 @@
-use Rattle.std.proofs.Common.{◌≡◌, ◌<◌, ◌≤◌, length, rules, sym, ◌∙◌, arith, ap}
+use Rattle.std.proofs.Common.{◌≡◌, ◌<◌, ◌≤◌, length, sym, ◌∙◌, arith, ap}
 use Rattle.sq_catalog.specs.Keys.{moved}
 use Rattle.sq_catalog.proofs.ChangedAt.{none_changed, next_changed, whole_changed, all_back}
 use Rattle.sq_catalog.proofs.keys.moved_places.Goals as goal

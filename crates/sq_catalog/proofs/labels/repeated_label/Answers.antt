@@ -1,5 +1,4 @@
-use Rattle.std.proofs.Common.{◌≡◌, sym, ◌∙◌, rules, true, false, drop, ◌+◌}
-use Rattle.sq_catalog.specs.UserTypes.{is_among}
+use Rattle.std.proofs.Common.{sym, ◌∙◌, rules}
 use Rattle.sq_catalog.proofs.LabelsAgain.{stands_again, goes_on}
 use Rattle.sq_catalog.proofs.labels.repeated_label.Goals as goal
 

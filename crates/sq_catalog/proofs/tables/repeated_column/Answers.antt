@@ -1,5 +1,4 @@
-use Rattle.std.proofs.Common.{◌≡◌, sym, ◌∙◌, rules, true, false, drop, ◌+◌}
-use Rattle.sq_catalog.specs.Catalogue.{is_repeated}
+use Rattle.std.proofs.Common.{sym, ◌∙◌, rules}
 use Rattle.sq_catalog.proofs.Changed.{stands_again, goes_on}
 use Rattle.sq_catalog.proofs.tables.repeated_column.Goals as goal
 

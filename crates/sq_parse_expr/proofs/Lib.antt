@@ -1,0 +1,4 @@
+pub mod Chains
+pub mod Exactly
+pub mod Froms
+pub mod Fronts

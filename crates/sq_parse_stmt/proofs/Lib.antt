@@ -1,2 +1,3 @@
 pub mod Exactly
+pub mod Heights
 pub mod RunTurns

@@ -1,5 +1,7 @@
 pub mod Ahead
 pub mod Answers
+pub mod Changes
+pub mod Heights
 pub mod Parts
 pub mod PassedOver
 pub mod Runs

@@ -1,7 +1,8 @@
 -- The grammar's parsers under one module, for the code.
 pub use Rattle.sq_grammar.specs.Names.{qualified_name}
-pub use Rattle.sq_grammar.specs.Queries.{names}
-pub use Rattle.sq_grammar.specs.Statements.{expect_word}
+pub use Rattle.sq_grammar.specs.Queries.{names, bare_name, query}
+pub use Rattle.sq_grammar.specs.Statements.{expect_word, columns, as_name, table_alias}
+pub use Rattle.sq_grammar.specs.Statements.{given, values_row, source, assignment, assignments, optional_target, conflict, returning, sources, insert, update, delete, statement, statements}
 pub use Rattle.sq_grammar.specs.Schemas.{if_exists, if_not_exists, behavior, run, some_run, default_run, within}
 pub use Rattle.sq_grammar.specs.Schemas.{constraint_name, event, reference_action_words, reaction, reference, generated, check, constraint_form, constraint, constraints}
 pub use Rattle.sq_grammar.specs.Schemas.{column, table_constraint_form, table_constraint, element, tail}

@@ -1,6 +1,6 @@
 //! The actions of ALTER TABLE (PostgreSQL manual, ALTER TABLE).
 
-ghost use Rattle.std.specs.Prelude.{◌≡◌, None};
+ghost use Rattle.std.specs.Prelude.{◌≡◌, None, codes};
 ghost use Rattle.sq_syntax.specs.declared.symbol.Symbol.TheVariants as s;
 ghost use Rattle.sq_grammar.specs.Reading.{choose, many, pure, sees};
 ghost use Rattle.sq_grammar.specs.Schemas as spec;
@@ -133,18 +133,32 @@ fn set_type(
     }))
 }
 
-/// The word, and NOT NULL.
-fn not_null(
+/// SET NOT NULL.
+fn set_not_null(
     tokens: &mut Cursor<'_>,
-    word: &str,
-    found: TableAction,
+    has_column: bool,
+    column: Identifier,
 ) -> Result<TableAction, ParseError>
-    ensures { Reads (spec.not_null word.now found tokens.old) result tokens.new }
+    ensures { Reads (spec.not_null (codes "set") (TableAction.SetNotNull has_column column) tokens.old) result tokens.new }
 {
-    expect_word(tokens, word)?;
+    expect_word(tokens, "set")?;
     tokens.expect(Symbol::Not)?;
     tokens.expect(Symbol::Null)?;
-    Ok(found)
+    Ok(TableAction::SetNotNull(has_column, column))
+}
+
+/// DROP NOT NULL.
+fn drop_not_null(
+    tokens: &mut Cursor<'_>,
+    has_column: bool,
+    column: Identifier,
+) -> Result<TableAction, ParseError>
+    ensures { Reads (spec.not_null (codes "drop") (TableAction.DropNotNull has_column column) tokens.old) result tokens.new }
+{
+    expect_word(tokens, "drop")?;
+    tokens.expect(Symbol::Not)?;
+    tokens.expect(Symbol::Null)?;
+    Ok(TableAction::DropNotNull(has_column, column))
 }
 
 #[tactic(auto, unfolding(crate::specs::Words::alter_column))]
@@ -155,9 +169,9 @@ fn alter_column(alloc: Global, tokens: &mut Cursor<'_>) -> Result<TableAction, P
     let has_column = optional_word(tokens, "column")?;
     let name = name(alloc, tokens)?;
     if sees_both(tokens, "set", "not") {
-        not_null(tokens, "set", TableAction::SetNotNull(has_column, name))
+        set_not_null(tokens, has_column, name)
     } else if sees_word(tokens, "drop") {
-        not_null(tokens, "drop", TableAction::DropNotNull(has_column, name))
+        drop_not_null(tokens, has_column, name)
     } else {
         set_type(alloc, tokens, has_column, name)
     }

@@ -8,7 +8,7 @@ use Rattle.std.proofs.lemmas.List.Splits.{slice_split_first, slice_split_none}
 use Rattle.std.proofs.lemmas.List.Sums.{fails_before_first}
 use Rattle.std.proofs.lemmas.Option.{same_Some}
 use Rattle.sq_syntax.specs.declared.token.Token.{Token}
-use Rattle.sq_run.specs.Schema.{is_end}
+use Rattle.sq_run.specs.Statements.{is_end}
 
 -- a semicolon at this place is the first one
 pub record CutAt (tokens : List Token) (end : ℕ) : Type 0 where

@@ -21,6 +21,7 @@ pub mod Placeless
 pub mod Plans
 pub mod Printed
 pub mod ReadDdl
+pub mod ReadStatement
 pub mod Readables
 pub mod Says
 pub mod Seen

@@ -33,7 +33,7 @@ use Rattle.sq_run.specs.declared.read.TheConstants.{LIMIT}
 use Rattle.sq_run.specs.declared.sources.SourceFile.{SourceFile}
 use Rattle.sq_run.specs.Schema.{Made, made, read_ddl, replay_of, statements, without_notes, after_read, after_statement, after_statements, after_file, after_files, all_made, has_first_types, has_enums, has_domains, is_built, catalogue_by, catalogue_of}
 use Rattle.sq_run.specs.Names.{is_identifier}
-use Rattle.sq_run.specs.Query.{behind, before_end, query_name, noted_name, annotation, annotated, query_of}
+use Rattle.sq_run.specs.Query.{behind, before_end, query_name, noted_name, annotation, annotated, named_statement, query_in, query_of}
 use Rattle.sq_run.specs.Statements.{one_statement, select}
 use Rattle.sq_run.proofs.FirstTypes.{HasFirstTypes, tables_first, placed_there, same_ok}
 use Rattle.sq_run.proofs.OkSteps.{bind_some}
@@ -156,23 +156,42 @@ annotated_ok (t ∷ ts) r is = by_name (annotation t.kind t.bytes) refl is
         let same = same_Some _ _ is in
         (subst (λ (x : List ℕ × List Token). is_identifier x.0 ≡ true) same (annotation_ok t.kind t.bytes n there), ap (λ (x : List ℕ × List Token). x.1) (sym same))
 
-pub query_from : (tokens : List Token) (query : Query) → query_of tokens ≡ Some query → FromText tokens query
-unfolding query_of
-query_from tokens query is =
-    let noted = bind_some (annotated tokens) _ query is in
-    let statement = bind_some (one_statement noted.0.1) _ query noted.2 in
-    let chosen = bind_some (select statement.0) _ query statement.2 in
+-- where a named statement stands in its file
+record FromNamed (tokens : List Token) (found : List ℕ × List Token) : Type 0 where
+  pub count : ℕ
+  pub stretch : found.1 ≡ take count (drop 1 tokens)
+  pub named : is_identifier found.0 ≡ true
+  pub small : length found.1 ≤ length tokens
+
+named_from : (tokens : List Token) (found : List ℕ × List Token) → named_statement tokens ≡ Some found → FromNamed tokens found
+unfolding named_statement
+named_from tokens found is =
+    let noted = bind_some (annotated tokens) _ found is in
+    let statement = bind_some (one_statement noted.0.1) _ found noted.2 in
     let about = annotated_ok tokens noted.0 noted.1 in
     let cut = statement_size noted.0.1 statement.0 statement.1 in
-    let size = query_size statement.0 chosen.0 chosen.1 in
-    subst (FromText tokens) (same_Some _ _ chosen.2) (record {
-      statement = statement.0;
+    subst (FromNamed tokens) (same_Some _ _ statement.2) (record {
       count = length noted.0.1 - 1;
       stretch = cut.1 ∙ ap (λ (ts : List Token). take (length noted.0.1 - 1) ts) about.1;
+      named = about.0;
+      small = omega (arith, cut.0, ap length about.1, length-drop 1 tokens);
+    })
+
+pub query_from : (tokens : List Token) (query : Query) → query_of tokens ≡ Some query → FromText tokens query
+unfolding query_of query_in
+query_from tokens query is =
+    let found = bind_some (named_statement tokens) _ query is in
+    let about = named_from tokens found.0 found.1 in
+    let chosen = bind_some (select found.0.1) _ query found.2 in
+    let size = query_size found.0.1 chosen.0 chosen.1 in
+    subst (FromText tokens) (same_Some _ _ chosen.2) (record {
+      statement = found.0.1;
+      count = about.count;
+      stretch = about.stretch;
       reads = chosen.1;
       text = refl;
-      named = about.0;
-      small = omega (arith, size.0, cut.0, ap length about.1, length-drop 1 tokens);
+      named = about.named;
+      small = omega (arith, size.0, about.small);
       some = size.1;
     })
 

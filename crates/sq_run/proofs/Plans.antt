@@ -40,8 +40,9 @@ use Rattle.sq_run.specs.Outs.{all_entries, same_out, other_writer}
 use Rattle.sq_run.specs.Shape.{bad_key}
 use Rattle.sq_run.specs.Paths.{folder_of}
 use Rattle.sq_run.specs.Judged.{judged}
-use Rattle.sq_run.specs.Project.{checked, whole_file, listed, unless_more, counted, with_tokens, source, sources, output_by, output_of_entry, configured_by, configured, configuration_at, catalogue_of, models_of, file_with, file_by, file_of, declared_in, output_files, written, block_files, all_files, requested}
-use Rattle.sq_run.specs.Query.{query_of}
+use Rattle.sq_run.specs.Project.{checked, whole_file, listed, unless_more, counted, with_tokens, source, sources, output_by, output_of_entry, configured_by, configured, configuration_at, catalogue_of, models_of, file_with, file_by, file_of, file_read, file_named, declared_in, output_files, written, block_files, all_files, requested}
+use Rattle.sq_run.specs.Parsed.{statement_check}
+use Rattle.sq_run.specs.Query.{named_statement, query_in, query_of}
 use Rattle.sq_run.specs.Sources.{found_at, found_for, bytes_read}
 use Rattle.sq_run.proofs.OkSteps.{and_then_ok, Gathered, gathered_ok, EachOk, each_ok}
 
@@ -149,8 +150,13 @@ pub record FromQuery (contents : Contents) (file : SourceFile) (written : QueryF
   pub judges : judged contents query.select ≡ Ok found
   pub is : written ≡ file_with file.path query found
 
+-- the query of a file is that of its named statement
+query_named : (tokens : List Token) (found : List ℕ × List Token) → named_statement tokens ≡ Some found → query_of tokens ≡ query_in found.0 found.1
+unfolding query_of
+query_named tokens found there = rw there refl
+
 query_ok : (contents : Contents) (file : SourceFile) (own : List QueryFile) → declared_in contents file ≡ Ok own → (written : QueryFile) × (own ≡ written ∷ []) × FromQuery contents file written
-query_ok contents file own is = by_query (query_of file.tokens) refl is
+query_ok contents file own is = by_named (named_statement file.tokens) refl is
   where
     by_judged : (query : Query) → query_of file.tokens ≡ Some query → (answer : Result Judged Refusal) → judged contents query.select ≡ answer → file_by file.path query answer ≡ Ok own → (written : QueryFile) × (own ≡ written ∷ []) × FromQuery contents file written
     by_judged query there (Err refusal) judges is = absurd (cc is)
@@ -159,6 +165,14 @@ query_ok contents file own is = by_query (query_of file.tokens) refl is
     by_query : (found : Option Query) → query_of file.tokens ≡ found → file_of contents file.path found ≡ Ok own → (written : QueryFile) × (own ≡ written ∷ []) × FromQuery contents file written
     by_query None there is = absurd (cc is)
     by_query (Some query) there is = by_judged query there (judged contents query.select) refl is
+
+    by_read : (found : List ℕ × List Token) → query_of file.tokens ≡ query_in found.0 found.1 → (read : Result (Unit {0}) Refusal) → file_read contents file.path (query_in found.0 found.1) read ≡ Ok own → (written : QueryFile) × (own ≡ written ∷ []) × FromQuery contents file written
+    by_read found there (Err refusal) is = absurd (cc is)
+    by_read found there (Ok read) is = by_query (query_in found.0 found.1) there is
+
+    by_named : (found : Option (List ℕ × List Token)) → named_statement file.tokens ≡ found → file_named contents file.path found ≡ Ok own → (written : QueryFile) × (own ≡ written ∷ []) × FromQuery contents file written
+    by_named None there is = absurd (cc is)
+    by_named (Some found) there is = by_read found (query_named file.tokens found there) (statement_check found.1) is
 
 pub queries_ok : (contents : Contents) (files : List SourceFile) (written : List QueryFile) → EachOk (declared_in contents) files written → AllZip (FromQuery contents) files written
 queries_ok contents [] written is = subst (AllZip (FromQuery contents) []) (sym is) tt

@@ -18,7 +18,7 @@ use Rattle.sq_lexer.specs.Machine.{scan, begin}
 use Rattle.sq_lexer.specs.TokenList.{Reader, begun, read_past, read_unless, read_found, read_within, token_list}
 use Rattle.sq_run.specs.declared.statements.Named.{Named}
 use Rattle.sq_run.specs.declared.statements.Select.{Select}
-use Rattle.sq_run.specs.Statements.{Part, is, named, after, name_at, next, with_item, items_from, items_at, ended, one_statement, select}
+use Rattle.sq_run.specs.Statements.{Part, is, named, after, name_at, next, with_item, items_from, items_at, ended, is_single, one_statement, select}
 use Rattle.sq_run.specs.Names.{name_text}
 use Rattle.sq_run.proofs.OkSteps.{bind_some}
 
@@ -115,8 +115,11 @@ query_size ts query found =
 -- a statement has no more tokens than its file
 pub statement_size : (ts statement : List Token) → one_statement ts ≡ Some statement → (length statement ≤ length ts) × (statement ≡ take (length ts - 1) ts)
 unfolding one_statement
-statement_size ts statement found = by_end (after Punct (codes ";") (drop (length ts - 1) ts)) found
+statement_size ts statement found =
+    let end = bind_some (after Punct (codes ";") (drop (length ts - 1) ts)) _ statement found in
+    let is : take (length ts - 1) ts ≡ statement = by_test (is_single (take (length ts - 1) ts)) end.2 in
+    (omega (arith, ap length is, length-take (length ts - 1) ts), sym is)
   where
-    by_end : (end : Option (List Token)) → option_map (λ e. take (length ts - 1) ts) end ≡ Some statement → (length statement ≤ length ts) × (statement ≡ take (length ts - 1) ts)
-    by_end None same = absurd (cc same)
-    by_end (Some e) same = let is : take (length ts - 1) ts ≡ statement = same_Some _ _ same in (omega (arith, ap length is, length-take (length ts - 1) ts), sym is)
+    by_test : (test : Bool) → cond test (Some (take (length ts - 1) ts)) None ≡ Some statement → take (length ts - 1) ts ≡ statement
+    by_test true same = same_Some _ _ same
+    by_test false same = absurd (cc same)

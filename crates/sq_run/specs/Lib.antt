@@ -12,6 +12,7 @@ pub mod Lines
 pub mod Meaning
 pub mod Names
 pub mod Outs
+pub mod Parsed
 pub mod Paths
 pub mod Printed
 pub mod Project

@@ -26,6 +26,7 @@ word number =
     else (if number == 4 then codes "TooLong"
     else (if number == 5 then codes "TooNested"
     else (if number == 6 then codes "Syntax"
+    else (if number == 7 then codes "TooDeep"
     else (if number == 8 then codes "FileTooLong"
     else (if number == 9 then codes "TooManyFiles"
     else (if number == 10 then codes "UnknownTable"
@@ -41,7 +42,7 @@ word number =
     else (if number == 82 then codes "InUse"
     else (if number == 83 then codes "InPrimaryKey"
     else (if number == 84 then codes "TooManyColumns"
-    else codes "NotYet"))))))))))))))))))))
+    else codes "NotYet")))))))))))))))))))))
 
 -- a text that a refusal keeps, and a space before it; an empty one is left away
 abbrev pub kept : List ℕ → List ℕ

@@ -42,8 +42,9 @@ use Rattle.sq_run.specs.Asked.{Asked, Follows, nothing_asked, and_then, gathered
 use Rattle.sq_run.specs.CommandLine.{request_of}
 use Rattle.sq_run.specs.Configuration.{configuration_of}
 use Rattle.sq_run.specs.Judged.{judged, output_of}
+use Rattle.sq_run.specs.Parsed.{statement_check}
 use Rattle.sq_run.specs.Paths.{folder_of}
-use Rattle.sq_run.specs.Query.{query_of}
+use Rattle.sq_run.specs.Query.{named_statement, query_in}
 use Rattle.sq_run.specs.Sources.{found_at, bytes_read}
 pub use Rattle.sq_run.specs.Schema.{catalogue_of}
 
@@ -150,9 +151,19 @@ abbrev pub file_of : Contents → List ℕ → Option Query → Result (List Que
 file_of contents path (Some query) = file_by path query (judged contents query.select)
 file_of contents path None = Err (not_yet Source path ∷ [])
 
+-- the file of queries with what its statement is, where this is read
+abbrev pub file_read : Contents → List ℕ → Option Query → Result (Unit {0}) Refusal → Result (List QueryFile) (List Finding)
+file_read contents path query (Ok read) = file_of contents path query
+file_read contents path query (Err refusal) = Err (InSource path refusal ∷ [])
+
+-- the file of queries with its one named statement
+abbrev pub file_named : Contents → List ℕ → Option (List ℕ × List Token) → Result (List QueryFile) (List Finding)
+file_named contents path (Some found) = file_read contents path (query_in found.0 found.1) (statement_check found.1)
+file_named contents path None = Err (not_yet Source path ∷ [])
+
 -- what a source of queries is judged to be, over the catalogue
 abbrev pub declared_in : Contents → SourceFile → Result (List QueryFile) (List Finding)
-declared_in contents file = file_of contents file.path (query_of file.tokens)
+declared_in contents file = file_named contents file.path (named_statement file.tokens)
 
 -- FILES
 

@@ -39,10 +39,21 @@ unfoldable pub annotated : List Token → Part (List ℕ)
 annotated [] = None
 annotated (token ∷ tokens) = option_map (λ name. (name, tokens)) (annotation token.kind token.bytes)
 
+-- the name of a file's one query, and its statement, which stands directly behind the annotation
+unfoldable pub named_statement : List Token → Part (List ℕ)
+named_statement tokens = do
+  noted ← annotated tokens
+  statement ← one_statement noted.1
+  Some (noted.0, statement)
+
+-- the query with this name and statement
+unfoldable pub query_in : List ℕ → List Token → Option Query
+query_in name statement = do
+  select ← select statement
+  Some (record { name = name; select = select; text = printed statement })
+
 -- the query of a file with these tokens
 unfoldable pub query_of : List Token → Option Query
 query_of tokens = do
-  name ← annotated tokens
-  statement ← one_statement name.1
-  select ← select statement
-  Some (record { name = name.0; select = select; text = printed statement })
+  found ← named_statement tokens
+  query_in found.0 found.1

@@ -1,5 +1,5 @@
 -- The catalogue that the files of a schema make, statement by statement.
-use Rattle.std.specs.Prelude.{ℕ, nat_lt, ◌&&◌, not, Bool, true, false, if◌then◌else◌, List, [], ◌∷◌, ◌++◌, length, map, filter, codes, Option, None, Some, is_some, slice_get, Result, Ok, Err}
+use Rattle.std.specs.Prelude.{ℕ, nat_lt, ◌&&◌, not, Bool, true, false, if◌then◌else◌, List, [], ◌∷◌, ◌++◌, length, map, filter, Option, None, Some, is_some, slice_get, Result, Ok, Err}
 use Rattle.std.specs.List.{list_all, slice_split}
 use Rattle.sq_base.specs.declared.refusal.Refusal.{Refusal}
 use Rattle.sq_base.specs.declared.types.PgType.{PgType}
@@ -19,27 +19,16 @@ use Rattle.sq_syntax.specs.Symbols.{lexeme}
 use Rattle.sq_syntax.specs.Tokens.{refusal}
 use Rattle.sq_syntax.specs.declared.ddl.Ddl.{Ddl}
 use Rattle.sq_syntax.specs.declared.token.Token.{Token}
-use Rattle.sq_syntax.specs.declared.token.TokenKind.{TokenKind}
-use Rattle.sq_syntax.specs.declared.token.TokenKind.TheVariants.{Note, Punct}
 use Rattle.sq_run.specs.declared.halt.Finding.{Finding}
 use Rattle.sq_run.specs.declared.halt.Finding.TheVariants.{Configuration as InConfiguration, Source as InSource}
 use Rattle.sq_run.specs.declared.sources.SourceFile.{SourceFile}
-use Rattle.sq_run.specs.Statements.{is}
+use Rattle.sq_run.specs.Statements.{is_end, is_no_note}
 
 -- READING
 
--- whether a token isn't a comment that names a query: a schema has no use for these
-abbrev pub is_no_note : TokenKind → Bool
-is_no_note Note = false
-is_no_note _ = true
-
--- the tokens of a schema
+-- the tokens of a schema, which has no use for comments that name queries
 abbrev pub without_notes : List Token → List Token
 without_notes tokens = filter (λ (token : Token). is_no_note token.kind) tokens
-
--- whether a token ends a statement
-abbrev pub is_end : Token → Bool
-is_end token = is Punct (codes ";") token
 
 -- the statements of a file: what stands before, between and behind its semicolons
 abbrev pub statements : List Token → List (List Token)

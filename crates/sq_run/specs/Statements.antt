@@ -1,11 +1,12 @@
 -- The first queries that are read: for columns of one table.
-use Rattle.std.specs.Prelude.{ℕ, suc, zero, ◌&&◌, Bool, true, false, if◌then◌else◌, List, [], ◌∷◌, length, codes, Option, None, Some, ◌-◌, take, drop}
+use Rattle.std.specs.Prelude.{ℕ, suc, zero, ◌&&◌, not, Bool, true, false, if◌then◌else◌, List, [], ◌∷◌, length, codes, Option, None, Some, ◌-◌, take, drop}
+use Rattle.std.specs.List.{list_all}
 use Rattle.std.specs.Option.{option_map}
 use denote.Enum.Bare.{sameb}
 use Rattle.sq_syntax.specs.contracts.TokenKind.{the_type}
 use Rattle.sq_syntax.specs.declared.token.Token.{Token}
 use Rattle.sq_syntax.specs.declared.token.TokenKind.{TokenKind}
-use Rattle.sq_syntax.specs.declared.token.TokenKind.TheVariants.{Word, Punct}
+use Rattle.sq_syntax.specs.declared.token.TokenKind.TheVariants.{Word, Note, Punct}
 use Rattle.sq_run.specs.declared.statements.Named.{Named}
 use Rattle.sq_run.specs.declared.statements.Select.{Select}
 use Rattle.sq_run.specs.Names.{same_word, name_text}
@@ -26,6 +27,15 @@ same_kind a b = sameb the_type a b
 -- whether a token of this kind is this word in any letter case, or this mark
 abbrev pub is : TokenKind → List ℕ → Token → Bool
 is kind text token = same_kind token.kind kind && same_word token.bytes text
+
+-- whether a token ends a statement
+abbrev pub is_end : Token → Bool
+is_end token = is Punct (codes ";") token
+
+-- whether a token isn't a comment that names a query
+abbrev pub is_no_note : TokenKind → Bool
+is_no_note Note = false
+is_no_note _ = true
 
 -- the tokens after this word or mark
 unfoldable pub after : TokenKind → List ℕ → List Token → Option (List Token)
@@ -69,9 +79,27 @@ unfoldable pub ended : List Token → Option (Unit {0})
 ended [] = Some tt
 ended (token ∷ tokens) = None
 
+-- whether a token stands inside a statement: it neither ends one nor names a query
+abbrev pub is_inner : Token → Bool
+is_inner token = is_no_note token.kind && not (is_end token)
+
+abbrev pub are_inner : List Token → Bool
+are_inner tokens = list_all is_inner tokens
+
+-- whether tokens are those of a single statement: there are some, and each stands inside it
+abbrev pub is_single : List Token → Bool
+is_single [] = false
+is_single (token ∷ tokens) = are_inner (token ∷ tokens)
+
+-- tokens, where they are those of a single statement
+abbrev pub single : List Token → Option (List Token)
+single tokens = if is_single tokens then Some tokens else None
+
 -- the one statement of a file, which a semicolon ends, without it
 unfoldable pub one_statement : List Token → Option (List Token)
-one_statement tokens = option_map (λ end. take (length tokens - 1) tokens) (after Punct (codes ";") (drop (length tokens - 1) tokens))
+one_statement tokens = do
+  end ← after Punct (codes ";") (drop (length tokens - 1) tokens)
+  single (take (length tokens - 1) tokens)
 
 -- SELECT name {, name} FROM name
 unfoldable pub select : List Token → Option Select

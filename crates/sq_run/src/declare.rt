@@ -4,19 +4,21 @@ ghost use Rattle.std.specs.Prelude.{◌≡◌, ◌∷◌, [], map, IfOk};
 ghost use Rattle.sq_run.specs.Asked.{Judges, each_judged};
 ghost use Rattle.sq_run.specs.Judged.{judged, output_of};
 ghost use Rattle.sq_run.specs.Project;
-ghost use Rattle.sq_run.specs.Project.{declared, declared_in, file_by, file_name, file_of, file_with};
-ghost use Rattle.sq_run.specs.Query.{query_of};
+ghost use Rattle.sq_run.specs.Parsed.{statement_check};
+ghost use Rattle.sq_run.specs.Project.{declared, declared_in, file_by, file_name, file_of, file_read, file_with};
+ghost use Rattle.sq_run.specs.Query.{query_in};
 
 use crate::Halt;
 use crate::joining::{ending, join};
 use crate::judge::{Judged, judge, output_of};
-use crate::query::{Query, read_query};
+use crate::query::{Query, check_statement, named_statement, read_query};
 use crate::read::{Role, refuse, refuse_source};
 use crate::sources::SourceFile;
 use crate::statements::NoForm;
 use sq_base::{Fault, List, Name};
 use sq_catalog::{Catalogue, Table};
 use sq_core::{Command, ModelDecl, Output as Column, QueryFile, QuerySig, Signature};
+use sq_syntax::Token;
 use std::alloc::{AllocError, Global};
 
 /// The columns of a table's model.
@@ -118,6 +120,40 @@ fn judge_query(
     }
 }
 
+/// Judges the query that a named statement of the file at a path asks, over the catalogue.
+fn judge_select(
+    alloc: Global,
+    catalogue: &Catalogue,
+    path: &str,
+    name: Name,
+    statement: &[Token],
+) -> Result<List<QueryFile>, Halt>
+    ensures { Judges (file_of catalogue.now path.now (query_in name statement.now)) result }
+{
+    match read_query(alloc, name, statement) {
+        Ok(query) => judge_query(alloc, catalogue, path, query),
+        Err(NoForm::Other) => Err(refuse(alloc, Role::Source, path)),
+        Err(NoForm::Memory) => Err(Halt::Memory),
+    }
+}
+
+/// Judges the named statement of the file at a path over the catalogue, where it is read.
+fn judge_statement(
+    alloc: Global,
+    catalogue: &Catalogue,
+    path: &str,
+    name: Name,
+    statement: &[Token],
+) -> Result<List<QueryFile>, Halt>
+    ensures { Judges (file_read catalogue.now path.now (query_in name statement.now) (statement_check statement.now)) result }
+{
+    match check_statement(alloc, statement) {
+        Ok(()) => judge_select(alloc, catalogue, path, name, statement),
+        Err(Fault::Refused(refusal)) => Err(refuse_source(alloc, path, refusal)),
+        Err(Fault::Memory) => Err(Halt::Memory),
+    }
+}
+
 /// What a source of queries is judged to be, over the catalogue.
 fn declared_in(
     alloc: Global,
@@ -127,8 +163,8 @@ fn declared_in(
     ensures { Judges (declared_in catalogue.now file.now) result }
 {
     let path = file.path.as_str();
-    match read_query(alloc, file.tokens.as_slice()) {
-        Ok(query) => judge_query(alloc, catalogue, path, query),
+    match named_statement(alloc, file.tokens.as_slice()) {
+        Ok((name, statement)) => judge_statement(alloc, catalogue, path, name, statement),
         Err(NoForm::Other) => Err(refuse(alloc, Role::Source, path)),
         Err(NoForm::Memory) => Err(Halt::Memory),
     }

@@ -54,6 +54,7 @@ fn word(number: u8) -> &'static str
         4 => "TooLong",
         5 => "TooNested",
         6 => "Syntax",
+        7 => "TooDeep",
         8 => "FileTooLong",
         9 => "TooManyFiles",
         10 => "UnknownTable",

@@ -1,11 +1,14 @@
 ghost use Rattle.std.specs.Prelude.{◌≡◌, ◌++◌, IfOk, OnOk};
 ghost use Rattle.sq_lexer.specs.Printed.{gap_text, spaced, printed};
-ghost use Rattle.sq_run.specs.Query.{behind, before_end, query_name, noted_name, annotated, query_of};
+ghost use Rattle.sq_run.specs.Judged.{Answers};
+ghost use Rattle.sq_run.specs.Parsed.{statement_check};
+ghost use Rattle.sq_run.specs.Query.{behind, before_end, query_name, noted_name, annotated, named_statement, query_in};
 ghost use Rattle.sq_run.specs.Read.{Gives};
 
 use crate::names::{ascii, is_identifier};
 use crate::statements::{NoForm, Select, one_statement, read_select};
-use sq_base::{List, Name};
+use sq_base::{Fault, List, Name};
+use sq_parse_stmt::statement;
 use sq_syntax::{Gap, Token, TokenKind};
 use std::alloc::{AllocError, Global};
 
@@ -66,6 +69,32 @@ fn annotated<'a>(alloc: Global, tokens: &'a [Token]) -> Result<(Name, &'a [Token
     }
 }
 
+/// The name of a file's one query, and its statement, which stands directly behind the annotation.
+#[tactic(auto, unfolding(crate::specs::Query::named_statement))]
+pub fn named_statement<'a>(
+    alloc: Global,
+    tokens: &'a [Token],
+) -> Result<(Name, &'a [Token]), NoForm>
+    ensures { Gives (λ r. (r.0, r.1.now)) result (named_statement tokens.now) }
+{
+    let (name, later) = annotated(alloc, tokens)?;
+    Ok((name, one_statement(later)?))
+}
+
+/// Reads a statement, and drops its tree, which nothing uses yet.
+///
+/// Refused at the first token: [4] more than 16,384 tokens; [5] brackets and CASE that nest more
+/// than 64 deep; [6] tokens that spell no statement; [7] a tree that is higher than 256.
+#[tactic(auto, using(crate::proofs::ReadStatement::reads))]
+pub fn check_statement(alloc: Global, tokens: &[Token]) -> Result<(), Fault>
+    ensures { Answers (statement_check tokens.now) result }
+{
+    match statement(alloc, tokens) {
+        Ok(_) => Ok(()),
+        Err(fault) => Err(fault),
+    }
+}
+
 /// How a gap is printed.
 fn gap_text(gap: Gap) -> &'static str
     ensures { result.now ≡ gap_text gap }
@@ -107,13 +136,11 @@ fn printed(alloc: Global, tokens: &[Token]) -> Result<List<u8>, AllocError>
     Ok(text)
 }
 
-/// Reads the tokens of a file with one query.
-#[tactic(auto, unfolding(crate::specs::Query::query_of))]
-pub fn read_query(alloc: Global, tokens: &[Token]) -> Result<Query, NoForm>
-    ensures { Gives (λ r. r) result (query_of tokens.now) }
+/// Reads the query with this name and statement.
+#[tactic(auto, unfolding(crate::specs::Query::query_in))]
+pub fn read_query(alloc: Global, name: Name, statement: &[Token]) -> Result<Query, NoForm>
+    ensures { Gives (λ r. r) result (query_in name statement.now) }
 {
-    let (name, later) = annotated(alloc, tokens)?;
-    let statement = one_statement(later)?;
     let select = read_select(alloc, statement)?;
     let text = printed(alloc, statement)?;
     Ok(Query { name, select, text })

@@ -8,6 +8,7 @@ ghost use Rattle.sq_run.specs.Asked.{Judges};
 ghost use Rattle.sq_run.specs.Judged.{Answers};
 ghost use Rattle.sq_run.specs.Schema as spec;
 ghost use Rattle.sq_run.specs.Schema.{made};
+ghost use Rattle.sq_run.specs.Statements.{is_end};
 
 use crate::joining::append;
 use crate::read::{Role, refuse};
@@ -36,7 +37,7 @@ fn without_notes(alloc: Global, tokens: List<Token>) -> Result<List<Token>, Allo
 
 /// The place of the first semicolon.
 fn first_end(tokens: &[Token]) -> Option<usize>
-    ensures place { result ≡ position spec.is_end tokens.now }
+    ensures place { result ≡ position is_end tokens.now }
     ensures within { IfSome result (λ at. at < length tokens.now) }
 {
     tokens.iter().position(|token| is_end(token))
@@ -44,7 +45,7 @@ fn first_end(tokens: &[Token]) -> Option<usize>
 
 /// The tokens before the first semicolon, and those behind it, if there is one.
 fn cut(tokens: &[Token]) -> (&[Token], Option<&[Token]>)
-    ensures split { slice_split spec.is_end tokens.now ≡ result.0.now ∷ option_map_or (λ later. slice_split spec.is_end later.now) result.1 [] }
+    ensures split { slice_split is_end tokens.now ≡ result.0.now ∷ option_map_or (λ later. slice_split is_end later.now) result.1 [] }
     ensures shorter { IfSome result.1 (λ later. length later.now < length tokens.now) }
 {
     match first_end(tokens) {

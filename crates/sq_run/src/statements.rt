@@ -1,9 +1,8 @@
 ghost use Rattle.std.specs.Prelude.{◌≡◌, ◌<◌, ◌≤◌, ◌++◌, [], ◌∷◌, true, false, length, codes, string_bytes, IfOk};
 ghost use Rattle.sq_run.specs.Statements;
-ghost use Rattle.sq_run.specs.Statements.{is, after, name_at, next, items_at, ended, one_statement, select};
+ghost use Rattle.sq_run.specs.Statements.{is, is_end, is_inner, are_inner, is_single, after, name_at, next, items_at, ended, single, one_statement, select};
 ghost use Rattle.sq_syntax.specs.declared.token.TokenKind.TheVariants.{Word, Punct};
 ghost use Rattle.sq_run.specs.Read.{Gives};
-ghost use Rattle.sq_run.specs.Schema.{is_end};
 ghost use Rattle.sq_run.specs.declared.statements.NoForm.TheVariants.{Memory};
 
 use crate::names::{name_text, same_word};
@@ -136,6 +135,37 @@ fn outputs_at<'a>(alloc: Global, tokens: &'a [Token]) -> Result<(List<Named>, &'
     }
 }
 
+/// Whether a token stands inside a statement: it neither ends one nor names a query.
+fn is_inner(token: &Token) -> bool
+    ensures { result ≡ is_inner token.now }
+{
+    token.kind != TokenKind::Note && !is_end(token)
+}
+
+fn are_inner(tokens: &[Token]) -> bool
+    ensures { result ≡ are_inner tokens.now }
+{
+    tokens.iter().all(is_inner)
+}
+
+/// Whether tokens are those of a single statement.
+fn is_single(tokens: &[Token]) -> bool
+    ensures { result ≡ is_single tokens.now }
+{
+    !tokens.is_empty() && are_inner(tokens)
+}
+
+/// Tokens, where they are those of a single statement.
+fn single(tokens: &[Token]) -> Result<&[Token], NoForm>
+    ensures { Gives (λ r. r.now) result (single tokens.now) }
+{
+    if is_single(tokens) {
+        Ok(tokens)
+    } else {
+        Err(NoForm::Other)
+    }
+}
+
 /// The one statement of a file, without the semicolon that ends it.
 #[tactic(auto, unfolding(crate::specs::Statements::one_statement))]
 pub fn one_statement(tokens: &[Token]) -> Result<&[Token], NoForm>
@@ -143,7 +173,7 @@ pub fn one_statement(tokens: &[Token]) -> Result<&[Token], NoForm>
 {
     let (statement, end) = tokens.split_at(tokens.len().saturating_sub(1));
     after(end, TokenKind::Punct, ";")?;
-    Ok(statement)
+    single(statement)
 }
 
 /// Reads SELECT with its names and its table.

@@ -1,4 +1,5 @@
 mod built_in;
+mod changes;
 mod configurations;
 mod conversions;
 mod folders;
@@ -522,7 +523,7 @@ const STATEMENTS: [(&str, &str); 31] = [
 ];
 
 /// Query files over the schema `t`, and the line that each is refused with; none where it is accepted.
-const QUERY_FILES: [(&str, &str); 36] = [
+const QUERY_FILES: &[(&str, &str)] = &[
     ("-- name: ListT :many\nselect ID,Name From T ;", ""),
     ("-- name: ListT :many\nSELECT id\nFROM t;", ""),
     (
@@ -577,7 +578,17 @@ const QUERY_FILES: [(&str, &str); 36] = [
         "-- name: ListT :many\nSELECT id name FROM t;",
         QUERY_NOT_YET,
     ),
-    ("-- name: ListT :many\nSELECT select FROM t;", QUERY_NOT_YET),
+    ("-- name: ListT :many\n;", QUERY_NOT_YET),
+    (
+        "-- name: ListT :many\n  SELECT select FROM t;",
+        "q.sql:2:3: [6] Syntax\n",
+    ),
+    (
+        "-- name: ListT :many\nSELECT id FROM u WHERE;",
+        "q.sql:2:1: [6] Syntax\n",
+    ),
+    ("-- name: ListT :many\nDELETE FROM t;", QUERY_NOT_YET),
+    ("-- name: ListT :many\nDELETE t;", "q.sql:2:1: [6] Syntax\n"),
     ("-- name: ListT :many\nSELECT 1 FROM t;", QUERY_NOT_YET),
     (
         "-- name: ListT :many\nSELECT x FROM t;",
@@ -678,7 +689,7 @@ fn each_project_is_judged(rt: HostRuntime) -> Result<(), Fail> {
     for (schema, lines) in &STATEMENTS {
         assert!(rt; judges_as(alloc, schema, QUERY, lines)?, "at {schema}");
     }
-    for (query, line) in &QUERY_FILES {
+    for (query, line) in QUERY_FILES {
         assert!(rt; judges_as(alloc, SCHEMA, query, line)?, "at {query}");
     }
     for (schema, query, line) in &PROJECTS {

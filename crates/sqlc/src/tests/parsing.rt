@@ -8,7 +8,7 @@ use sq_syntax::Token;
 use std::alloc::{AllocError, Global};
 use std::test::Fail;
 
-fn refused(alloc: Global, fault: &Fault) -> Result<String, AllocError> {
+pub fn refused(alloc: Global, fault: &Fault) -> Result<String, AllocError> {
     match fault {
         Fault::Memory => String::from_str(alloc, "memory"),
         Fault::Refused(refusal) => {
@@ -21,11 +21,17 @@ fn refused(alloc: Global, fault: &Fault) -> Result<String, AllocError> {
 }
 
 /// The tokens of a text that is no longer than a file.
-fn tokens_of(alloc: Global, text: &str) -> Result<List<Token>, Fault> {
+pub fn tokens_of(alloc: Global, text: &str) -> Result<List<Token>, Fault> {
     if text.len() > 4_194_304 {
         return Ok(List::new(alloc));
     }
     tokens(alloc, 0, text.as_bytes())
+}
+
+fn shown(alloc: Global, tokens: &[Token], tree: Inner<'_>) -> Result<String, AllocError> {
+    let mut text = String::new(alloc);
+    write_tree(alloc, tokens, tree, &mut text)?;
+    Ok(text)
 }
 
 /// The tree of an expression, fully bracketed.
@@ -35,16 +41,7 @@ fn expression_of(alloc: Global, text: &str) -> Result<String, AllocError> {
         Err(fault) => return refused(alloc, &fault),
     };
     match expression(alloc, found.as_slice()) {
-        Ok(tree) => {
-            let mut shown = String::new(alloc);
-            write_tree(
-                alloc,
-                found.as_slice(),
-                Inner::Expression(&tree),
-                &mut shown,
-            )?;
-            Ok(shown)
-        }
+        Ok(tree) => shown(alloc, found.as_slice(), Inner::Expression(&tree)),
         Err(fault) => refused(alloc, &fault),
     }
 }
@@ -56,11 +53,7 @@ fn query_of(alloc: Global, text: &str) -> Result<String, AllocError> {
         Err(fault) => return refused(alloc, &fault),
     };
     match query(alloc, found.as_slice()) {
-        Ok(tree) => {
-            let mut shown = String::new(alloc);
-            write_tree(alloc, found.as_slice(), Inner::Query(&tree), &mut shown)?;
-            Ok(shown)
-        }
+        Ok(tree) => shown(alloc, found.as_slice(), Inner::Query(&tree)),
         Err(fault) => refused(alloc, &fault),
     }
 }
@@ -77,7 +70,7 @@ fn answer_of(alloc: Global, text: &str) -> Result<String, AllocError> {
     }
 }
 
-fn push_times(text: &mut String, part: &str, count: usize) -> Result<(), AllocError> {
+pub fn push_times(text: &mut String, part: &str, count: usize) -> Result<(), AllocError> {
     for _turn in 0..count {
         text.push_str(part)?;
     }

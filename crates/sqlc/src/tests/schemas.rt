@@ -1,49 +1,29 @@
 //! Schema statements: the statements of dumps and migrations, passed over, refused, or read.
 
+use super::parsing::{push_times, refused, tokens_of};
 use super::schema_shapes::write_ddl;
-use sq_base::Fault;
-use sq_lexer::tokens;
 use sq_parse_stmt::ddl;
+use sq_syntax::Ddl;
 use std::alloc::{AllocError, Global};
 use std::test::Fail;
 
-fn refused(alloc: Global, fault: &Fault) -> Result<String, AllocError> {
-    match fault {
-        Fault::Memory => String::from_str(alloc, "memory"),
-        Fault::Refused(refusal) => {
-            format!(in alloc;
-                "{} at {}:{}",
-                refusal.number, refusal.place.line, refusal.place.column
-            )
-        }
-    }
+fn shown(alloc: Global, found: &Ddl) -> Result<String, AllocError> {
+    let mut text = String::new(alloc);
+    write_ddl(&mut text, found)?;
+    Ok(text)
 }
 
 /// The schema statement as a short text, "passed over", or the number and place of the refusal.
 fn answer_of(alloc: Global, text: &str) -> Result<String, AllocError> {
-    if text.len() > 4_194_304 {
-        return String::from_str(alloc, "too long to be read");
-    }
-    let found = match tokens(alloc, 0, text.as_bytes()) {
+    let found = match tokens_of(alloc, text) {
         Ok(found) => found,
         Err(fault) => return refused(alloc, &fault),
     };
     match ddl(alloc, found.as_slice()) {
-        Ok(Some(found)) => {
-            let mut shown = String::new(alloc);
-            write_ddl(&mut shown, &found)?;
-            Ok(shown)
-        }
+        Ok(Some(found)) => shown(alloc, &found),
         Ok(None) => String::from_str(alloc, "passed over"),
         Err(fault) => refused(alloc, &fault),
     }
-}
-
-fn push_times(text: &mut String, part: &str, count: usize) -> Result<(), AllocError> {
-    for _turn in 0..count {
-        text.push_str(part)?;
-    }
-    Ok(())
 }
 
 const PASSED_OVER: &[&str] = &[

@@ -158,7 +158,7 @@ fn push_joins<'a>(from: &'a From, pieces: &mut Vec<Piece<'a>>) -> Result<(), All
     Ok(())
 }
 
-fn parts_of_from<'a>(
+pub fn parts_of_from<'a>(
     alloc: Global,
     from: &'a From,
     found: &mut Vec<Inner<'a>>,
@@ -307,24 +307,28 @@ fn index(number: u32) -> usize {
     number as usize
 }
 
-/// The numbers of the first token of a tree, and of the one behind it.
-fn span(tree: Inner<'_>) -> (usize, usize) {
-    let (first, last) = match tree {
+/// The numbers of the first and the last token of a tree.
+fn span(tree: Inner<'_>) -> (u32, u32) {
+    match tree {
         Inner::Expression(x) => (x.first, x.last),
         Inner::Query(query) => (query.first, query.last),
-    };
-    (index(first), index(last).saturating_add(1))
+    }
 }
 
-/// Pushes the tokens and parts of a tree, the last one first.
+/// The numbers of the first token, and of the one behind the last.
+fn stretch(span: (u32, u32)) -> (usize, usize) {
+    (index(span.0), index(span.1).saturating_add(1))
+}
+
+/// Pushes the tokens from the first to the last one and the trees in them, the last one first.
 fn push_parts<'a>(
-    tree: Inner<'a>,
+    span_of_all: (u32, u32),
     found: &[Inner<'a>],
     tasks: &mut Vec<Task<'a>>,
 ) -> Result<(), AllocError> {
-    let (first, mut end) = span(tree);
+    let (first, mut end) = stretch(span_of_all);
     for part in found.iter().rev() {
-        let (begin, behind) = span(*part);
+        let (begin, behind) = stretch(span(*part));
         tasks.push(Task::Tokens(behind, end))?;
         tasks.push(Task::Tree(*part))?;
         end = begin;
@@ -355,7 +359,25 @@ fn push_tree<'a>(
             tasks.push(Task::Mark("} "))?;
         }
     }
-    push_parts(tree, found.as_slice(), tasks)
+    push_parts(span(tree), found.as_slice(), tasks)
+}
+
+/// Writes what the tasks say, the last one first.
+fn write_tasks<'a>(
+    alloc: Global,
+    tokens: &[Token],
+    tasks: &mut Vec<Task<'a>>,
+    text: &mut String,
+) -> Result<(), AllocError> {
+    for _turn in 0..MOST_PARTS {
+        match tasks.pop() {
+            None => return Ok(()),
+            Some(Task::Tree(part)) => push_tree(alloc, part, tasks, text)?,
+            Some(Task::Tokens(from, to)) => write_tokens(alloc, tokens, from, to, text)?,
+            Some(Task::Mark(mark)) => text.push_str(mark)?,
+        }
+    }
+    Ok(())
 }
 
 /// The tokens of a tree, with brackets round what operators make and braces round queries.
@@ -367,13 +389,18 @@ pub fn write_tree(
 ) -> Result<(), AllocError> {
     let mut tasks = Vec::new(alloc);
     tasks.push(Task::Tree(tree))?;
-    for _turn in 0..MOST_PARTS {
-        match tasks.pop() {
-            None => return Ok(()),
-            Some(Task::Tree(part)) => push_tree(alloc, part, &mut tasks, text)?,
-            Some(Task::Tokens(from, to)) => write_tokens(alloc, tokens, from, to, text)?,
-            Some(Task::Mark(mark)) => text.push_str(mark)?,
-        }
-    }
-    Ok(())
+    write_tasks(alloc, tokens, &mut tasks, text)
+}
+
+/// The tokens from the first to the last one, with the trees in them.
+pub fn write_parts(
+    alloc: Global,
+    tokens: &[Token],
+    span: (u32, u32),
+    found: &[Inner<'_>],
+    text: &mut String,
+) -> Result<(), AllocError> {
+    let mut tasks = Vec::new(alloc);
+    push_parts(span, found, &mut tasks)?;
+    write_tasks(alloc, tokens, &mut tasks, text)
 }

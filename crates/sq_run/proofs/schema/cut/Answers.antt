@@ -1,6 +1,6 @@
 use Rattle.std.proofs.Common.{rules, ◌≡◌, None, Some}
 use Rattle.std.specs.Prelude.{position}
-use Rattle.sq_run.specs.Schema.{is_end}
+use Rattle.sq_run.specs.Statements.{is_end}
 use Rattle.sq_run.proofs.Cuts.{cut_at, not_cut}
 use Rattle.sq_run.proofs.schema.cut.Goals as goal
 

@@ -1,19 +1,22 @@
-//! Names, lists, places and refusals, and what the program meets outside itself: a tree of files to
+//! Names, lists, places, limits and refusals, and what the program meets outside itself: a tree of files to
 //! read, an output for whole files, and a screen.
 #![tactic(auto)]
 
 mod calls;
 mod casts;
 mod categories;
+mod code;
 mod constant;
 mod conversion;
 mod file;
 mod folding;
+pub mod limits;
 mod list;
 mod memory_out;
 mod memory_sink;
 mod memory_tree;
 mod name;
+mod no_form;
 mod out;
 mod place;
 mod refusal;
@@ -26,6 +29,7 @@ mod types;
 
 pub use casts::cast;
 pub use categories::{category, is_base, preferred};
+pub use code::Code;
 pub use constant::constant_type;
 pub use conversion::{Cast, Category};
 pub use file::File;
@@ -35,6 +39,7 @@ pub use memory_out::MemoryOut;
 pub use memory_sink::MemorySink;
 pub use memory_tree::MemoryTree;
 pub use name::Name;
+pub use no_form::NoForm;
 pub use out::{Out, OutFault};
 pub use place::Place;
 pub use refusal::{Fault, Refusal};

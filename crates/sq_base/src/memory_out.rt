@@ -8,6 +8,7 @@ ghost use Rattle.sq_base.specs.Out.{IsPut};
 use crate::calls::Calls;
 use crate::{File, List, Name, Out, OutFault};
 use std::alloc::{AllocError, Global};
+use std::marker::Model;
 
 /// An output in memory.
 #[derive(Debug, Drop)]
@@ -17,13 +18,21 @@ pub struct MemoryOut {
     calls: Calls,
 }
 
+impl Model for MemoryOut {
+    ghost use Rattle.sq_base.specs.Memory.{OutMemory};
+
+    ghost Value = { OutMemory };
+
+    ghost view = { λ it. record { files = it.files; calls = it.calls } };
+}
+
 impl MemoryOut {
     pub fn new(
         alloc: Global,
         files: List<File>,
         failing: List<u64>,
     ) -> Result<MemoryOut, AllocError>
-        ensures { IfOk result (λ out. out ≡ record { alloc = alloc; files = files; calls = record { failing = failing; made = 0; faults = 0 } }) }
+        ensures { IfOk result (λ out. out ≡ record { files = files; calls = record { failing = failing; made = 0; faults = 0 } }) }
     {
         Ok(MemoryOut {
             alloc,
@@ -63,10 +72,11 @@ fn put_file(files: &mut List<File>, file: File) -> Result<(), AllocError>
 }
 
 impl Out for MemoryOut {
-    ghost state = { λ out. out_state out.files out.calls };
+    ghost state = { out_state };
 
     fn put(&mut self, path: &str, bytes: &[u8]) -> Result<(), OutFault>
-        ensures put { IsPut (out_state self.old.files self.old.calls) (out_state self.new.files self.new.calls) result path.now bytes.now }
+        ensures put { IsPut (out_state self.old) (out_state self.new) result path.now bytes.now }
+        ensures unchanged { OnErr result (self.new.files ≡ self.old.files) }
         ensures failing { IsErrOf result OutFault.Failed ↔ IsTrue (next_fails self.old.calls) }
     {
         if self.calls.next() {

@@ -1,4 +1,4 @@
-ghost use Rattle.std.specs.Prelude.{◌≡◌, ◌↔◌, [], IfOk, IsErrOf, IsTrue};
+ghost use Rattle.std.specs.Prelude.{◌≡◌, ◌↔◌, [], IfOk, OnErr, IsErrOf, IsTrue};
 ghost use Rattle.sq_base.specs.Calls.{next_fails};
 ghost use Rattle.sq_base.specs.Memory.{sink_state};
 ghost use Rattle.sq_base.specs.Sink.{IsWrite};
@@ -6,12 +6,21 @@ ghost use Rattle.sq_base.specs.Sink.{IsWrite};
 use crate::calls::Calls;
 use crate::{List, Sink, SinkFault};
 use std::alloc::{AllocError, Global};
+use std::marker::Model;
 
 /// A screen in memory.
 #[derive(Debug, Drop)]
 pub struct MemorySink {
     text: List<u8>,
     calls: Calls,
+}
+
+impl Model for MemorySink {
+    ghost use Rattle.sq_base.specs.Memory.{SinkMemory};
+
+    ghost Value = { SinkMemory };
+
+    ghost view = { λ it. record { text = it.text; calls = it.calls } };
 }
 
 impl MemorySink {
@@ -33,10 +42,11 @@ impl MemorySink {
 }
 
 impl Sink for MemorySink {
-    ghost state = { λ sink. sink_state sink.text sink.calls };
+    ghost state = { sink_state };
 
     fn write(&mut self, bytes: &[u8]) -> Result<(), SinkFault>
-        ensures write { IsWrite (sink_state self.old.text self.old.calls) (sink_state self.new.text self.new.calls) result bytes.now }
+        ensures write { IsWrite (sink_state self.old) (sink_state self.new) result bytes.now }
+        ensures unchanged { OnErr result (self.new.text ≡ self.old.text) }
         ensures failing { IsErrOf result SinkFault.Failed ↔ IsTrue (next_fails self.old.calls) }
     {
         if self.calls.next() {

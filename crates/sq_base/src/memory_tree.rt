@@ -11,6 +11,7 @@ ghost use Rattle.sq_base.specs.Tree.{IsTreeCall, Lists, Reads, bytes_at_most};
 use crate::calls::Calls;
 use crate::{File, List, Listing, Name, Tree, TreeFault};
 use std::alloc::{AllocError, Global};
+use std::marker::Model;
 
 /// A tree in memory.
 #[derive(Debug, Drop)]
@@ -18,6 +19,14 @@ pub struct MemoryTree {
     files: List<File>,
     calls: Calls,
     missings: u64,
+}
+
+impl Model for MemoryTree {
+    ghost use Rattle.sq_base.specs.Memory.{TreeMemory};
+
+    ghost Value = { TreeMemory };
+
+    ghost view = { λ it. record { files = it.files; calls = it.calls; missings = it.missings } };
 }
 
 impl MemoryTree {
@@ -142,11 +151,11 @@ pub(crate) fn front(bytes: &[u8], limit: usize) -> &[u8]
 }
 
 impl Tree for MemoryTree {
-    ghost state = { λ tree. tree_state tree.files tree.calls tree.missings };
+    ghost state = { tree_state };
 
     fn list(&mut self, alloc: Global, path: &str) -> Result<Listing, TreeFault>
-        ensures call { IsTreeCall (tree_state self.old.files self.old.calls self.old.missings) (tree_state self.new.files self.new.calls self.new.missings) result }
-        ensures answer { Lists path.now (tree_state self.old.files self.old.calls self.old.missings) result }
+        ensures call { IsTreeCall (tree_state self.old) (tree_state self.new) result }
+        ensures answer { Lists path.now (tree_state self.old) result }
         ensures failing { IsErrOf result TreeFault.Failed ↔ IsTrue (next_fails self.old.calls) }
     {
         if self.calls.next() {
@@ -164,9 +173,9 @@ impl Tree for MemoryTree {
 
     fn read(&mut self, alloc: Global, path: &str, limit: usize) -> Result<List<u8>, TreeFault>
         requires { limit < 2 ^ 32 }
-        ensures call { IsTreeCall (tree_state self.old.files self.old.calls self.old.missings) (tree_state self.new.files self.new.calls self.new.missings) result }
+        ensures call { IsTreeCall (tree_state self.old) (tree_state self.new) result }
         ensures bound { IfOk result (λ bytes. length bytes ≤ limit + 1) }
-        ensures answer { Reads limit path.now (tree_state self.old.files self.old.calls self.old.missings) result }
+        ensures answer { Reads limit path.now (tree_state self.old) result }
         ensures failing { IsErrOf result TreeFault.Failed ↔ IsTrue (next_fails self.old.calls) }
     {
         if self.calls.next() {

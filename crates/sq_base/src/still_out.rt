@@ -1,10 +1,11 @@
-ghost use Rattle.std.specs.Prelude.{◌≡◌, ◌≢◌, Err, IfOk};
+ghost use Rattle.std.specs.Prelude.{◌≡◌, ◌≢◌, Err, IfOk, OnErr};
 ghost use Rattle.sq_base.specs.Memory.{still_out_state};
 ghost use Rattle.sq_base.specs.Out.{IsPut};
 
 use crate::memory_out::put_new;
 use crate::{File, List, Out, OutFault};
 use std::alloc::{AllocError, Global};
+use std::marker::Model;
 
 /// An output in memory, no call of which fails.
 #[derive(Debug, Drop)]
@@ -14,9 +15,17 @@ pub struct StillOut {
     calls: u64,
 }
 
+impl Model for StillOut {
+    ghost use Rattle.sq_base.specs.Memory.{StillOutMemory};
+
+    ghost Value = { StillOutMemory };
+
+    ghost view = { λ it. record { files = it.files; calls = it.calls } };
+}
+
 impl StillOut {
     pub fn new(alloc: Global, files: List<File>) -> Result<StillOut, AllocError>
-        ensures { IfOk result (λ out. out ≡ record { alloc = alloc; files = files; calls = 0 }) }
+        ensures { IfOk result (λ out. out ≡ record { files = files; calls = 0 }) }
     {
         Ok(StillOut {
             alloc,
@@ -34,10 +43,11 @@ impl StillOut {
 }
 
 impl Out for StillOut {
-    ghost state = { λ out. still_out_state out.files out.calls };
+    ghost state = { still_out_state };
 
     fn put(&mut self, path: &str, bytes: &[u8]) -> Result<(), OutFault>
-        ensures put { IsPut (still_out_state self.old.files self.old.calls) (still_out_state self.new.files self.new.calls) result path.now bytes.now }
+        ensures put { IsPut (still_out_state self.old) (still_out_state self.new) result path.now bytes.now }
+        ensures unchanged { OnErr result (self.new.files ≡ self.old.files) }
         ensures still { result ≢ Err OutFault.Failed }
     {
         self.calls = self.calls.saturating_add(1);

@@ -1,15 +1,24 @@
-ghost use Rattle.std.specs.Prelude.{◌≡◌, ◌≢◌, [], Err, IfOk};
+ghost use Rattle.std.specs.Prelude.{◌≡◌, ◌≢◌, [], Err, IfOk, OnErr};
 ghost use Rattle.sq_base.specs.Memory.{still_sink_state};
 ghost use Rattle.sq_base.specs.Sink.{IsWrite};
 
 use crate::{List, Sink, SinkFault};
 use std::alloc::{AllocError, Global};
+use std::marker::Model;
 
 /// A screen in memory, no call of which fails.
 #[derive(Debug, Drop)]
 pub struct StillSink {
     text: List<u8>,
     calls: u64,
+}
+
+impl Model for StillSink {
+    ghost use Rattle.sq_base.specs.Memory.{StillSinkMemory};
+
+    ghost Value = { StillSinkMemory };
+
+    ghost view = { λ it. record { text = it.text; calls = it.calls } };
 }
 
 impl StillSink {
@@ -31,10 +40,11 @@ impl StillSink {
 }
 
 impl Sink for StillSink {
-    ghost state = { λ sink. still_sink_state sink.text sink.calls };
+    ghost state = { still_sink_state };
 
     fn write(&mut self, bytes: &[u8]) -> Result<(), SinkFault>
-        ensures write { IsWrite (still_sink_state self.old.text self.old.calls) (still_sink_state self.new.text self.new.calls) result bytes.now }
+        ensures write { IsWrite (still_sink_state self.old) (still_sink_state self.new) result bytes.now }
+        ensures unchanged { OnErr result (self.new.text ≡ self.old.text) }
         ensures still { result ≢ Err SinkFault.Failed }
     {
         self.calls = self.calls.saturating_add(1);

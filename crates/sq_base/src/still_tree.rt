@@ -5,6 +5,7 @@ ghost use Rattle.sq_base.specs.Tree.{IsTreeCall, Lists, Reads};
 use crate::memory_tree::{front, held, standing};
 use crate::{File, List, Listing, Tree, TreeFault};
 use std::alloc::{AllocError, Global};
+use std::marker::Model;
 
 /// A tree in memory, no call of which fails.
 #[derive(Debug, Drop)]
@@ -12,6 +13,14 @@ pub struct StillTree {
     files: List<File>,
     calls: u64,
     missings: u64,
+}
+
+impl Model for StillTree {
+    ghost use Rattle.sq_base.specs.Memory.{StillTreeMemory};
+
+    ghost Value = { StillTreeMemory };
+
+    ghost view = { λ it. record { files = it.files; calls = it.calls; missings = it.missings } };
 }
 
 impl StillTree {
@@ -27,11 +36,11 @@ impl StillTree {
 }
 
 impl Tree for StillTree {
-    ghost state = { λ tree. still_tree_state tree.files tree.calls tree.missings };
+    ghost state = { still_tree_state };
 
     fn list(&mut self, alloc: Global, path: &str) -> Result<Listing, TreeFault>
-        ensures call { IsTreeCall (still_tree_state self.old.files self.old.calls self.old.missings) (still_tree_state self.new.files self.new.calls self.new.missings) result }
-        ensures answer { Lists path.now (still_tree_state self.old.files self.old.calls self.old.missings) result }
+        ensures call { IsTreeCall (still_tree_state self.old) (still_tree_state self.new) result }
+        ensures answer { Lists path.now (still_tree_state self.old) result }
         ensures still { result ≢ Err TreeFault.Failed }
     {
         self.calls = self.calls.saturating_add(1);
@@ -47,9 +56,9 @@ impl Tree for StillTree {
 
     fn read(&mut self, alloc: Global, path: &str, limit: usize) -> Result<List<u8>, TreeFault>
         requires { limit < 2 ^ 32 }
-        ensures call { IsTreeCall (still_tree_state self.old.files self.old.calls self.old.missings) (still_tree_state self.new.files self.new.calls self.new.missings) result }
+        ensures call { IsTreeCall (still_tree_state self.old) (still_tree_state self.new) result }
         ensures bound { IfOk result (λ bytes. length bytes ≤ limit + 1) }
-        ensures answer { Reads limit path.now (still_tree_state self.old.files self.old.calls self.old.missings) result }
+        ensures answer { Reads limit path.now (still_tree_state self.old) result }
         ensures still { result ≢ Err TreeFault.Failed }
     {
         self.calls = self.calls.saturating_add(1);

@@ -7,8 +7,9 @@ use Rattle.sq_catalog.specs.declared.table.Column.{Column}
 use Rattle.sq_catalog.specs.declared.table.Table.{Table}
 use Rattle.sq_catalog.specs.declared.change.Action.{Action}
 use Rattle.sq_catalog.specs.declared.change.Target.{Target}
+use Rattle.sq_catalog.specs.declared.change.Cause.{Cause}
 use Rattle.sq_catalog.specs.declared.change.ChangeFault.{ChangeFault}
-use Rattle.sq_catalog.specs.declared.change.ChangeFault.TheVariants.{Exists, Missing, InUse, InPrimaryKey, TooManyColumns, Memory}
+use Rattle.sq_catalog.specs.declared.change.ChangeFault.TheVariants.{Refused, Memory}
 use Rattle.sq_catalog.specs.Actions.{acted}
 use Rattle.sq_catalog.specs.Answers.{Answers, and_then}
 use Rattle.sq_catalog.specs.Catalogue.{altered, table_altered, place_of_table, instead, is_repeated, repeated_column}
@@ -16,7 +17,7 @@ use Rattle.sq_catalog.specs.Columns.{change_at, placed}
 use Rattle.sq_catalog.specs.Contents.{Contents}
 use Rattle.sq_catalog.proofs.ChangedAt.{written}
 
-module _ {A L B : Type 0} (put : List A → B) (into : L → A → A) (xs ys : List A) (at : ℕ) (x : A) (old y : L) (stepped : Result L ChangeFault)
+module _ {A L B : Type 0} (put : List A → B) (into : L → A → A) (xs ys : List A) (at : ℕ) (x : A) (old y : L) (stepped : Result L Cause)
     (within : at < length xs) (is : x ≡ get_or xs at x) (written_there : ys ≡ set xs at (into y x)) (same : into old x ≡ x) where
   made : stepped ≡ Ok y → and_then stepped (λ new. Ok (put (change_at (into new) xs at))) ≡ Ok (put ys)
   made done = rw done (ap (λ zs. Ok (put zs)) (written (into y) xs at x within is ∙ sym written_there))
@@ -24,17 +25,13 @@ module _ {A L B : Type 0} (put : List A → B) (into : L → A → A) (xs ys : L
   unchanged : y ≡ old → put ys ≡ put xs
   unchanged kept = ap put (written_there ∙ ap (λ z. set xs at (into z x)) kept ∙ ap (set xs at) same ∙ ap (set xs at) is ∙ set-get_or xs at x)
 
-  refused : (fault : ChangeFault) → stepped ≡ Err fault → and_then stepped (λ new. Ok (put (change_at (into new) xs at))) ≡ Err fault
+  refused : (fault : Cause) → stepped ≡ Err fault → and_then stepped (λ new. Ok (put (change_at (into new) xs at))) ≡ Err fault
   refused fault done = rw done refl
 
   pub whole : (result : Result (Unit {0}) ChangeFault) → Answers old stepped y result → Answers (put xs) (and_then stepped (λ new. Ok (put (change_at (into new) xs at)))) (put ys) result
   whole (Ok done) answers = made answers
   whole (Err Memory) answers = unchanged answers
-  whole (Err (Exists name)) answers = (refused (Exists name) answers.0, unchanged answers.1)
-  whole (Err (Missing name)) answers = (refused (Missing name) answers.0, unchanged answers.1)
-  whole (Err (InUse name)) answers = (refused (InUse name) answers.0, unchanged answers.1)
-  whole (Err (InPrimaryKey name)) answers = (refused (InPrimaryKey name) answers.0, unchanged answers.1)
-  whole (Err (TooManyColumns name)) answers = (refused (TooManyColumns name) answers.0, unchanged answers.1)
+  whole (Err (Refused cause)) answers = (refused cause answers.0, unchanged answers.1)
 
 -- something is found with its place
 pub placed_at : {A : Type 0} (xs : List A) (at : ℕ) (x : A) (place : Option ℕ) → Some at ≡ place → at < length xs → x ≡ get_or xs at x → placed xs place ≡ Some (at, x)
@@ -50,7 +47,7 @@ altered_at c target action schema name tables at x y result same_schema same_nam
     found_there ∙ ap (λ (s : List ℕ). place_of_table c s name) same_schema ∙ ap (place_of_table c target.schema) same_name in
     let so : table_altered c target action ≡ altered c target action (Some (at, x)) =
     ap (altered c target action) (placed_at c.tables at x (place_of_table c target.schema target.name) found within is) in
-    subst (λ (stepped : Result Contents ChangeFault). Answers c stepped (record c { tables = tables }) result) (sym so)
+    subst (λ (stepped : Result Contents Cause). Answers c stepped (record c { tables = tables }) result) (sym so)
     (whole (λ (zs : List Table). record c { tables = zs }) instead c.tables tables at x x y (acted x action) within is there refl result answers)
 
 -- the front of what is left of a list

@@ -11,29 +11,29 @@ use Rattle.sq_catalog.specs.declared.table.Table.{Table}
 use Rattle.sq_catalog.specs.declared.change.Keys.{Keys}
 use Rattle.sq_catalog.specs.declared.change.Action.{Action}
 use Rattle.sq_catalog.specs.declared.change.Action.TheVariants.{AddColumn, DropColumn, RenameColumn, SetNotNull, DropNotNull, SetType, AddPrimaryKey, DropConstraint, RenameConstraint}
-use Rattle.sq_catalog.specs.declared.change.ChangeFault.{ChangeFault}
-use Rattle.sq_catalog.specs.declared.change.ChangeFault.TheVariants.{Exists, Missing, InPrimaryKey}
+use Rattle.sq_catalog.specs.declared.change.Cause.{Cause}
+use Rattle.sq_catalog.specs.declared.change.Cause.TheVariants.{Exists, Missing, InPrimaryKey}
 
 -- a table with one more column
 abbrev pub with_column : Table → Column → Table
 with_column table column = record table { columns = table.columns ++ column ∷ [] }
 
 -- a new column, whose name must be free, and the key that it makes
-abbrev pub column_added : Table → Column → Bool → Keys → Result Table ChangeFault
+abbrev pub column_added : Table → Column → Bool → Keys → Result Table Cause
 column_added table column if_not_exists keys = elim (place_of_column table column.name) [
   | Some at ↦ if if_not_exists then Ok table else Err (Exists column.name)
   | None ↦ completed (with_column table column) keys
 ]
 
 -- a column goes
-abbrev pub column_dropped : Table → List ℕ → Bool → Result Table ChangeFault
+abbrev pub column_dropped : Table → List ℕ → Bool → Result Table Cause
 column_dropped table name if_exists = elim (place_of_column table name) [
   | Some at ↦ Ok (without_column table at)
   | None ↦ if if_exists then Ok table else Err (Missing name)
 ]
 
 -- a column gets a name that is free, in its place
-abbrev pub column_renamed : Table → List ℕ → List ℕ → Result Table ChangeFault
+abbrev pub column_renamed : Table → List ℕ → List ℕ → Result Table Cause
 column_renamed table from to = elim (place_of_column table from) [
   | None ↦ Err (Missing from)
   | Some at ↦ elim (place_of_column table to) [
@@ -43,21 +43,21 @@ column_renamed table from to = elim (place_of_column table from) [
 ]
 
 -- a column gets NOT NULL
-abbrev pub column_marked : Table → List ℕ → Result Table ChangeFault
+abbrev pub column_marked : Table → List ℕ → Result Table Cause
 column_marked table name = elim (place_of_column table name) [
   | None ↦ Err (Missing name)
   | Some at ↦ Ok (with_column_at (marked true) table at)
 ]
 
 -- a column that is not in the key loses NOT NULL
-abbrev pub column_unmarked : Table → List ℕ → Result Table ChangeFault
+abbrev pub column_unmarked : Table → List ℕ → Result Table Cause
 column_unmarked table name = elim (place_of_column table name) [
   | None ↦ Err (Missing name)
   | Some at ↦ if in_key table at then Err (InPrimaryKey name) else Ok (with_column_at (marked false) table at)
 ]
 
 -- a column gets another type
-abbrev pub column_typed : Table → List ℕ → PgType → Result Table ChangeFault
+abbrev pub column_typed : Table → List ℕ → PgType → Result Table Cause
 column_typed table name of = elim (place_of_column table name) [
   | None ↦ Err (Missing name)
   | Some at ↦ Ok (with_column_at (typed of) table at)
@@ -74,7 +74,7 @@ key_renamed from to None = None
 key_renamed from to (Some key) = if bytes_eq key.name from then Some (record key { name = to }) else Some key
 
 -- what an action makes of a table
-abbrev pub acted : Table → Action → Result Table ChangeFault
+abbrev pub acted : Table → Action → Result Table Cause
 acted table (AddColumn column if_not_exists keys) = column_added table column if_not_exists keys
 acted table (DropColumn name if_exists) = column_dropped table name if_exists
 acted table (RenameColumn from to) = column_renamed table from to

@@ -16,8 +16,9 @@ use Rattle.sq_catalog.specs.declared.table.Table.{Table}
 use Rattle.sq_catalog.specs.declared.change.Action.{Action}
 use Rattle.sq_catalog.specs.declared.change.Change.{Change}
 use Rattle.sq_catalog.specs.declared.change.Change.TheVariants.{CreateSchema, CreateTable, DropTable, AlterTable, RenameTable, SetTableSchema, CreateEnum, CreateDomain, AddValue, RenameValue, RenameType, SetTypeSchema, DropSchema, DropType, DropDomain}
+use Rattle.sq_catalog.specs.declared.change.Cause.{Cause}
 use Rattle.sq_catalog.specs.declared.change.ChangeFault.{ChangeFault}
-use Rattle.sq_catalog.specs.declared.change.ChangeFault.TheVariants.{Exists}
+use Rattle.sq_catalog.specs.declared.change.Cause.TheVariants.{Exists}
 use Rattle.sq_catalog.specs.declared.change.Keys.{Keys}
 use Rattle.sq_catalog.specs.declared.change.Target.{Target}
 
@@ -46,7 +47,7 @@ abbrev pub placed_table : Contents → List ℕ → List ℕ → Option (ℕ × 
 placed_table c schema name = placed c.tables (place_of_table c schema name)
 
 -- a new schema; "public" is always accepted
-abbrev pub schema_created : Contents → List ℕ → Bool → Result Contents ChangeFault
+abbrev pub schema_created : Contents → List ℕ → Bool → Result Contents Cause
 schema_created c name if_not_exists =
     if has_schema c name then (if if_not_exists || bytes_eq name public then Ok c else Err (Exists name))
     else Ok (record c { schemas = c.schemas ++ name ∷ [] })
@@ -65,14 +66,14 @@ abbrev pub bare : ℕ → List ℕ → List ℕ → List Column → Table
 bare id schema name columns = record { id = id; schema = schema; name = name; columns = columns; key = None }
 
 -- two columns of one name are refused
-abbrev pub distinct : List Column → Result (Unit {0}) ChangeFault
+abbrev pub distinct : List Column → Result (Unit {0}) Cause
 distinct columns = elim (repeated_column columns) [
   | Some name ↦ Err (Exists name)
   | None ↦ Ok tt
 ]
 
 -- a new table, whose columns have different names, with the key that a statement asks for
-abbrev pub new_table : Table → Keys → Result Table ChangeFault
+abbrev pub new_table : Table → Keys → Result Table Cause
 new_table table keys = and_then (distinct table.columns) (λ done. completed table keys)
 
 -- the catalogue with one more table, which has the next id
@@ -84,18 +85,18 @@ abbrev pub with_table : Contents → List ℕ → List ℕ → List Column → C
 with_table c schema name columns = with_new c (bare c.given schema name columns)
 
 -- the catalogue with a new table, which has the next id
-abbrev pub table_made : Contents → List ℕ → List ℕ → List Column → Keys → Result Contents ChangeFault
+abbrev pub table_made : Contents → List ℕ → List ℕ → List Column → Keys → Result Contents Cause
 table_made c schema name columns keys = and_then (new_table (bare c.given schema name columns) keys) (λ table. Ok (with_new c table))
 
 -- a new table, whose name must be free
-abbrev pub table_created : Contents → List ℕ → List ℕ → Bool → List Column → Keys → Result Contents ChangeFault
+abbrev pub table_created : Contents → List ℕ → List ℕ → Bool → List Column → Keys → Result Contents Cause
 table_created c schema name if_not_exists columns keys = elim (place_of_table c schema name) [
   | Some at ↦ if if_not_exists then Ok c else Err (Exists name)
   | None ↦ table_made c schema name columns keys
 ]
 
 -- a table goes
-abbrev pub table_dropped : Contents → Target → Result Contents ChangeFault
+abbrev pub table_dropped : Contents → Target → Result Contents Cause
 table_dropped c target = elim (place_of_table c target.schema target.name) [
   | None ↦ absent c target
   | Some at ↦ Ok (record c { tables = remove c.tables at })
@@ -118,44 +119,44 @@ abbrev pub housed : List ℕ → Table → Table
 housed schema table = record table { schema = schema }
 
 -- what is found is changed in its place
-abbrev pub altered : Contents → Target → Action → Option (ℕ × Table) → Result Contents ChangeFault
+abbrev pub altered : Contents → Target → Action → Option (ℕ × Table) → Result Contents Cause
 altered c target action None = absent c target
 altered c target action (Some found) = and_then (acted found.1 action) (λ changed. Ok (with_table_at (instead changed) c found.0))
 
 -- a table is changed
-abbrev pub table_altered : Contents → Target → Action → Result Contents ChangeFault
+abbrev pub table_altered : Contents → Target → Action → Result Contents Cause
 table_altered c target action = altered c target action (placed_table c target.schema target.name)
 
 -- the table at a place gets a name that is free in its schema
-abbrev pub renamed_at : Contents → ℕ → List ℕ → List ℕ → Result Contents ChangeFault
+abbrev pub renamed_at : Contents → ℕ → List ℕ → List ℕ → Result Contents Cause
 renamed_at c at schema to = elim (place_of_table c schema to) [
   | Some taken ↦ Err (Exists to)
   | None ↦ Ok (with_table_at (titled to) c at)
 ]
 
 -- a table gets a name that is free in its schema, and keeps its place
-abbrev pub table_renamed : Contents → Target → List ℕ → Result Contents ChangeFault
+abbrev pub table_renamed : Contents → Target → List ℕ → Result Contents Cause
 table_renamed c target to = elim (place_of_table c target.schema target.name) [
   | None ↦ absent c target
   | Some at ↦ renamed_at c at target.schema to
 ]
 
 -- the table at a place comes into a schema where its name is free
-abbrev pub moved_at : Contents → ℕ → List ℕ → List ℕ → Result Contents ChangeFault
+abbrev pub moved_at : Contents → ℕ → List ℕ → List ℕ → Result Contents Cause
 moved_at c at name to = elim (place_of_table c to name) [
   | Some taken ↦ Err (Exists name)
   | None ↦ Ok (with_table_at (housed to) c at)
 ]
 
 -- a table comes into a schema where its name is free, and keeps its place
-abbrev pub table_moved : Contents → Target → List ℕ → Result Contents ChangeFault
+abbrev pub table_moved : Contents → Target → List ℕ → Result Contents Cause
 table_moved c target to = elim (place_of_table c target.schema target.name) [
   | None ↦ absent c target
   | Some at ↦ moved_at c at target.name to
 ]
 
 -- what a change makes of a catalogue, or why it is refused
-abbrev pub step : Contents → Change → Result Contents ChangeFault
+abbrev pub step : Contents → Change → Result Contents Cause
 step c (CreateSchema name if_not_exists) = schema_created c name if_not_exists
 step c (DropSchema name if_exists cascade) = schema_dropped c name if_exists cascade
 step c (CreateTable schema name if_not_exists columns keys) = table_created c schema name if_not_exists columns keys

@@ -14,12 +14,12 @@ use Rattle.sq_catalog.specs.declared.table.Column.{Column}
 use Rattle.sq_catalog.specs.declared.table.Table.{Table}
 use Rattle.sq_catalog.specs.declared.table.EnumType.{EnumType}
 use Rattle.sq_catalog.specs.declared.table.DomainType.{DomainType}
-use Rattle.sq_catalog.specs.declared.change.ChangeFault.{ChangeFault}
-use Rattle.sq_catalog.specs.declared.change.ChangeFault.TheVariants.{Missing, InUse}
+use Rattle.sq_catalog.specs.declared.change.Cause.{Cause}
+use Rattle.sq_catalog.specs.declared.change.Cause.TheVariants.{Missing, InUse}
 use Rattle.sq_catalog.specs.declared.change.Target.{Target}
 
 -- a change of what is not there: no effect under IF EXISTS
-abbrev pub absent : Contents → Target → Result Contents ChangeFault
+abbrev pub absent : Contents → Target → Result Contents Cause
 absent c target = if target.if_exists then Ok c else Err (Missing target.name)
 
 -- the id of an enumeration or a domain
@@ -97,12 +97,12 @@ without_types c ids = record c {
 }
 
 -- a type goes; what has it goes too under CASCADE, and is in the way else
-abbrev pub id_dropped : Contents → List ℕ → ℕ → Bool → Result Contents ChangeFault
+abbrev pub id_dropped : Contents → List ℕ → ℕ → Bool → Result Contents Cause
 id_dropped c name id cascade =
     if not cascade && in_use c (id ∷ []) then Err (InUse name) else Ok (without_types c (fallen (id ∷ []) c.domains))
 
 -- the type that is found goes
-abbrev pub found_dropped : Contents → Target → Bool → Option ℕ → Result Contents ChangeFault
+abbrev pub found_dropped : Contents → Target → Bool → Option ℕ → Result Contents Cause
 found_dropped c target cascade None = absent c target
 found_dropped c target cascade (Some id) = id_dropped c target.name id cascade
 
@@ -111,7 +111,7 @@ abbrev pub type_id : Contents → List ℕ → List ℕ → Option ℕ
 type_id c schema name = option_and_then (λ (of : PgType). id_of of.scalar) (type_named c schema name)
 
 -- an enumeration or a domain goes
-abbrev pub type_dropped : Contents → Target → Bool → Result Contents ChangeFault
+abbrev pub type_dropped : Contents → Target → Bool → Result Contents Cause
 type_dropped c target cascade = found_dropped c target cascade (type_id c target.schema target.name)
 
 -- the id of the domain of this name in this schema
@@ -119,7 +119,7 @@ abbrev pub domain_id : Contents → List ℕ → List ℕ → Option ℕ
 domain_id c schema name = option_map (λ (of : DomainType). of.id) (domain_named c schema name)
 
 -- a domain goes
-abbrev pub domain_dropped : Contents → Target → Bool → Result Contents ChangeFault
+abbrev pub domain_dropped : Contents → Target → Bool → Result Contents Cause
 domain_dropped c target cascade = found_dropped c target cascade (domain_id c target.schema target.name)
 
 -- whether a table stands in this schema
@@ -162,10 +162,10 @@ abbrev pub without_held : Contents → List ℕ → Contents
 without_held c schema = without_types (without_schema c schema) (fallen (types_in c schema) c.domains)
 
 -- a schema goes; what it holds goes too under CASCADE, and is in the way else
-abbrev pub held_dropped : Contents → List ℕ → Bool → Result Contents ChangeFault
+abbrev pub held_dropped : Contents → List ℕ → Bool → Result Contents Cause
 held_dropped c schema cascade = if not cascade && holds c schema then Err (InUse schema) else Ok (without_held c schema)
 
 -- a schema goes
-abbrev pub schema_dropped : Contents → List ℕ → Bool → Bool → Result Contents ChangeFault
+abbrev pub schema_dropped : Contents → List ℕ → Bool → Bool → Result Contents Cause
 schema_dropped c schema if_exists cascade =
     if has_schema c schema then held_dropped c schema cascade else (if if_exists then Ok c else Err (Missing schema))

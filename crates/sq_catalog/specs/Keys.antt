@@ -9,8 +9,8 @@ use Rattle.sq_catalog.specs.declared.table.Table.{Table}
 use Rattle.sq_catalog.specs.declared.change.NewKey.{NewKey}
 use Rattle.sq_catalog.specs.declared.change.Keys.{Keys}
 use Rattle.sq_catalog.specs.declared.change.Keys.TheVariants.{Nothing, One, Several}
-use Rattle.sq_catalog.specs.declared.change.ChangeFault.{ChangeFault}
-use Rattle.sq_catalog.specs.declared.change.ChangeFault.TheVariants.{Exists, Missing, TooManyColumns}
+use Rattle.sq_catalog.specs.declared.change.Cause.{Cause}
+use Rattle.sq_catalog.specs.declared.change.Cause.TheVariants.{Exists, Missing, TooManyColumns}
 
 -- what a second primary key is refused with
 abbrev pub primary_key : List ℕ
@@ -22,7 +22,7 @@ key_name table None = table ++ codes "_pkey"
 key_name table (Some name) = name
 
 -- the places of the columns of these names, behind those that are found already
-abbrev pub places_of : Table → List ℕ → List (List ℕ) → Result (List ℕ) ChangeFault
+abbrev pub places_of : Table → List ℕ → List (List ℕ) → Result (List ℕ) Cause
 places_of table found [] = Ok found
 places_of table found (name ∷ names) = elim (place_of_column table name) [
   | None ↦ Err (Missing name)
@@ -30,14 +30,14 @@ places_of table found (name ∷ names) = elim (place_of_column table name) [
 ]
 
 -- a new key of a table, which may have no other
-abbrev pub new_key : Table → NewKey → Result Key ChangeFault
+abbrev pub new_key : Table → NewKey → Result Key Cause
 new_key table new = elim table.key [
   | Some key ↦ Err (Exists primary_key)
   | None ↦ and_then (places_of table [] new.columns) (λ places. Ok (record { name = key_name table.name new.name; columns = places }))
 ]
 
 -- the new key among those that a statement asks for
-abbrev pub key_of : Table → Keys → Result (Option Key) ChangeFault
+abbrev pub key_of : Table → Keys → Result (Option Key) Cause
 key_of table Nothing = Ok None
 key_of table (One new) = and_then (new_key table new) (λ key. Ok (Some key))
 key_of table Several = Err (Exists primary_key)
@@ -57,11 +57,11 @@ with_key_of table None = table
 with_key_of table (Some key) = with_key table key
 
 -- a table has 1,600 columns at most
-abbrev pub limited : Table → Result Table ChangeFault
+abbrev pub limited : Table → Result Table Cause
 limited table = if nat_lt 1600 (length table.columns) then Err (TooManyColumns table.name) else Ok table
 
 -- a table with the key that a statement asks for, within the limit
-abbrev pub completed : Table → Keys → Result Table ChangeFault
+abbrev pub completed : Table → Keys → Result Table Cause
 completed table keys = and_then (key_of table keys) (λ key. and_then (limited table) (λ within. Ok (with_key_of table key)))
 
 -- whether a column belongs to the primary key

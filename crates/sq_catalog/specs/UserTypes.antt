@@ -11,8 +11,8 @@ use Rattle.sq_catalog.specs.Columns.{change_at, placed}
 use Rattle.sq_catalog.specs.Contents.{Contents}
 use Rattle.sq_catalog.specs.declared.table.EnumType.{EnumType}
 use Rattle.sq_catalog.specs.declared.table.DomainType.{DomainType}
-use Rattle.sq_catalog.specs.declared.change.ChangeFault.{ChangeFault}
-use Rattle.sq_catalog.specs.declared.change.ChangeFault.TheVariants.{Exists, Missing}
+use Rattle.sq_catalog.specs.declared.change.Cause.{Cause}
+use Rattle.sq_catalog.specs.declared.change.Cause.TheVariants.{Exists, Missing}
 use Rattle.sq_catalog.specs.declared.change.Beside.{Beside}
 use Rattle.sq_catalog.specs.declared.change.Beside.TheVariants.{Last, Before, After}
 
@@ -91,14 +91,14 @@ repeated_label [] = None
 repeated_label (label ∷ labels) = if is_among label labels then Some label else repeated_label labels
 
 -- two equal labels are refused
-abbrev pub distinct_labels : List (List ℕ) → Result (Unit {0}) ChangeFault
+abbrev pub distinct_labels : List (List ℕ) → Result (Unit {0}) Cause
 distinct_labels labels = elim (repeated_label labels) [
   | Some label ↦ Err (Exists label)
   | None ↦ Ok tt
 ]
 
 -- a name that no type of this schema may have
-abbrev pub free_type : Contents → List ℕ → List ℕ → Result (Unit {0}) ChangeFault
+abbrev pub free_type : Contents → List ℕ → List ℕ → Result (Unit {0}) Cause
 free_type c schema name = elim (type_named c schema name) [
   | Some of ↦ Err (Exists name)
   | None ↦ Ok tt
@@ -112,7 +112,7 @@ with_enum c schema name labels = record c {
 }
 
 -- a new enumeration, whose name must be free and whose labels must be different
-abbrev pub enum_created : Contents → List ℕ → List ℕ → List (List ℕ) → Result Contents ChangeFault
+abbrev pub enum_created : Contents → List ℕ → List ℕ → List (List ℕ) → Result Contents Cause
 enum_created c schema name labels =
     and_then (free_type c schema name) (λ free. and_then (distinct_labels labels) (λ distinct. Ok (with_enum c schema name labels)))
 
@@ -124,7 +124,7 @@ with_domain c schema name base = record c {
 }
 
 -- a new domain, whose name must be free
-abbrev pub domain_created : Contents → List ℕ → List ℕ → PgType → Result Contents ChangeFault
+abbrev pub domain_created : Contents → List ℕ → List ℕ → PgType → Result Contents Cause
 domain_created c schema name base = and_then (free_type c schema name) (λ free. Ok (with_domain c schema name base))
 
 -- labels with one more at a place
@@ -132,7 +132,7 @@ abbrev pub with_label : List (List ℕ) → ℕ → List ℕ → List (List ℕ)
 with_label labels at label = insert labels at label
 
 -- where a new label comes: last, or beside another one
-abbrev pub label_place : List (List ℕ) → Beside → Result ℕ ChangeFault
+abbrev pub label_place : List (List ℕ) → Beside → Result ℕ Cause
 label_place labels Last = Ok (length labels)
 label_place labels (Before other) = elim (place_of_label labels other) [
   | None ↦ Err (Missing other)
@@ -144,7 +144,7 @@ label_place labels (After other) = elim (place_of_label labels other) [
 ]
 
 -- labels with a new one, which must be different
-abbrev pub label_added : List (List ℕ) → List ℕ → Bool → Beside → Result (List (List ℕ)) ChangeFault
+abbrev pub label_added : List (List ℕ) → List ℕ → Bool → Beside → Result (List (List ℕ)) Cause
 label_added labels label if_not_exists beside = elim (place_of_label labels label) [
   | Some at ↦ if if_not_exists then Ok labels else Err (Exists label)
   | None ↦ and_then (label_place labels beside) (λ at. Ok (with_label labels at label))
@@ -155,14 +155,14 @@ abbrev pub instead : List ℕ → List ℕ → List ℕ
 instead new old = new
 
 -- labels where the one at a place gets a text that no other has
-abbrev pub label_renamed_at : List (List ℕ) → ℕ → List ℕ → Result (List (List ℕ)) ChangeFault
+abbrev pub label_renamed_at : List (List ℕ) → ℕ → List ℕ → Result (List (List ℕ)) Cause
 label_renamed_at labels at to = elim (place_of_label labels to) [
   | Some taken ↦ Err (Exists to)
   | None ↦ Ok (change_at (instead to) labels at)
 ]
 
 -- labels where one gets a text that no other has, in its place
-abbrev pub label_renamed : List (List ℕ) → List ℕ → List ℕ → Result (List (List ℕ)) ChangeFault
+abbrev pub label_renamed : List (List ℕ) → List ℕ → List ℕ → Result (List (List ℕ)) Cause
 label_renamed labels from to = elim (place_of_label labels from) [
   | None ↦ Err (Missing from)
   | Some at ↦ label_renamed_at labels at to
@@ -173,17 +173,17 @@ abbrev pub with_labels : Contents → ℕ → List (List ℕ) → Contents
 with_labels c at labels = record c { enums = change_at (λ (of : EnumType). record of { labels = labels }) c.enums at }
 
 -- the labels of an enumeration that is found are changed
-abbrev pub labelled : Contents → List ℕ → (List (List ℕ) → Result (List (List ℕ)) ChangeFault) → Option (ℕ × EnumType) → Result Contents ChangeFault
+abbrev pub labelled : Contents → List ℕ → (List (List ℕ) → Result (List (List ℕ)) Cause) → Option (ℕ × EnumType) → Result Contents Cause
 labelled c name change None = Err (Missing name)
 labelled c name change (Some found) = and_then (change found.1.labels) (λ labels. Ok (with_labels c found.0 labels))
 
 -- a new label of an enumeration
-abbrev pub value_added : Contents → List ℕ → List ℕ → List ℕ → Bool → Beside → Result Contents ChangeFault
+abbrev pub value_added : Contents → List ℕ → List ℕ → List ℕ → Bool → Beside → Result Contents Cause
 value_added c schema name label if_not_exists beside =
     labelled c name (λ labels. label_added labels label if_not_exists beside) (placed c.enums (place_of_enum c schema name))
 
 -- a label of an enumeration gets another text
-abbrev pub value_renamed : Contents → List ℕ → List ℕ → List ℕ → List ℕ → Result Contents ChangeFault
+abbrev pub value_renamed : Contents → List ℕ → List ℕ → List ℕ → List ℕ → Result Contents Cause
 value_renamed c schema name from to = labelled c name (λ labels. label_renamed labels from to) (placed c.enums (place_of_enum c schema name))
 
 -- an enumeration under another name
@@ -203,32 +203,32 @@ abbrev pub domain_housed : List ℕ → DomainType → DomainType
 domain_housed schema of = record of { schema = schema }
 
 -- the domain of this name is changed in its place
-abbrev pub domain_changed : (DomainType → DomainType) → Contents → List ℕ → List ℕ → Result Contents ChangeFault
+abbrev pub domain_changed : (DomainType → DomainType) → Contents → List ℕ → List ℕ → Result Contents Cause
 domain_changed f c schema name = elim (place_of_domain c schema name) [
   | None ↦ Err (Missing name)
   | Some at ↦ Ok (record c { domains = change_at f c.domains at })
 ]
 
 -- the enumeration or domain of this name is changed in its place, and keeps its id
-abbrev pub type_changed : (EnumType → EnumType) → (DomainType → DomainType) → Contents → List ℕ → List ℕ → Result Contents ChangeFault
+abbrev pub type_changed : (EnumType → EnumType) → (DomainType → DomainType) → Contents → List ℕ → List ℕ → Result Contents Cause
 type_changed f g c schema name = elim (place_of_enum c schema name) [
   | Some at ↦ Ok (record c { enums = change_at f c.enums at })
   | None ↦ domain_changed g c schema name
 ]
 
 -- a type of this schema that is there
-abbrev pub known_type : Contents → List ℕ → List ℕ → Result (Unit {0}) ChangeFault
+abbrev pub known_type : Contents → List ℕ → List ℕ → Result (Unit {0}) Cause
 known_type c schema name = elim (type_named c schema name) [
   | None ↦ Err (Missing name)
   | Some of ↦ Ok tt
 ]
 
 -- a type gets a name that is free in its schema
-abbrev pub type_renamed : Contents → List ℕ → List ℕ → List ℕ → Result Contents ChangeFault
+abbrev pub type_renamed : Contents → List ℕ → List ℕ → List ℕ → Result Contents Cause
 type_renamed c schema name to =
     and_then (known_type c schema name) (λ known. and_then (free_type c schema to) (λ free. type_changed (enum_titled to) (domain_titled to) c schema name))
 
 -- a type comes into a schema where its name is free
-abbrev pub type_moved : Contents → List ℕ → List ℕ → List ℕ → Result Contents ChangeFault
+abbrev pub type_moved : Contents → List ℕ → List ℕ → List ℕ → Result Contents Cause
 type_moved c schema name to =
     and_then (known_type c schema name) (λ known. and_then (free_type c to name) (λ free. type_changed (enum_housed to) (domain_housed to) c schema name))

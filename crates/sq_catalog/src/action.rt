@@ -7,7 +7,7 @@ ghost use Rattle.sq_catalog.specs.Keys.{completed};
 
 use crate::columns::{column, mark, rename, retype, take_columns};
 use crate::keys::{add_key, complete, drop_at, in_key};
-use crate::{Action, ChangeFault, Column, Key, Keys, Table};
+use crate::{Action, Cause, ChangeFault, Column, Key, Keys, Table};
 use sq_base::{List, Name, PgType};
 use std::alloc::Global;
 
@@ -49,7 +49,7 @@ fn add_column(
 {
     match column(table, new.name.as_str()) {
         Some(_) if if_not_exists => Ok(()),
-        Some(_) => Err(ChangeFault::Exists(new.name)),
+        Some(_) => Err(ChangeFault::Refused(Cause::Exists(new.name))),
         None => push_column(alloc, table, new, keys),
     }
 }
@@ -69,7 +69,7 @@ fn drop_column(
             Ok(())
         }
         None if if_exists => Ok(()),
-        None => Err(ChangeFault::Missing(name)),
+        None => Err(ChangeFault::Refused(Cause::Missing(name))),
     }
 }
 
@@ -78,10 +78,10 @@ fn rename_column(alloc: Global, table: &mut Table, from: Name, to: Name) -> Resu
     ensures { Answers table.old (column_renamed table.old from to) table.new result }
 {
     let Some(at) = column(table, from.as_str()) else {
-        return Err(ChangeFault::Missing(from));
+        return Err(ChangeFault::Refused(Cause::Missing(from)));
     };
     if column(table, to.as_str()).is_some() {
-        return Err(ChangeFault::Exists(to));
+        return Err(ChangeFault::Refused(Cause::Exists(to)));
     }
     rename(alloc, table, at, to);
     Ok(())
@@ -92,7 +92,7 @@ fn mark_column(alloc: Global, table: &mut Table, name: Name) -> Result<(), Chang
     ensures { Answers table.old (column_marked table.old name) table.new result }
 {
     let Some(at) = column(table, name.as_str()) else {
-        return Err(ChangeFault::Missing(name));
+        return Err(ChangeFault::Refused(Cause::Missing(name)));
     };
     mark(alloc, table, at, true);
     Ok(())
@@ -103,10 +103,10 @@ fn unmark_column(alloc: Global, table: &mut Table, name: Name) -> Result<(), Cha
     ensures { Answers table.old (column_unmarked table.old name) table.new result }
 {
     let Some(at) = column(table, name.as_str()) else {
-        return Err(ChangeFault::Missing(name));
+        return Err(ChangeFault::Refused(Cause::Missing(name)));
     };
     if in_key(table, at) {
-        return Err(ChangeFault::InPrimaryKey(name));
+        return Err(ChangeFault::Refused(Cause::InPrimaryKey(name)));
     }
     mark(alloc, table, at, false);
     Ok(())
@@ -117,7 +117,7 @@ fn type_column(alloc: Global, table: &mut Table, name: Name, of: PgType) -> Resu
     ensures { Answers table.old (column_typed table.old name of) table.new result }
 {
     let Some(at) = column(table, name.as_str()) else {
-        return Err(ChangeFault::Missing(name));
+        return Err(ChangeFault::Refused(Cause::Missing(name)));
     };
     retype(alloc, table, at, of);
     Ok(())

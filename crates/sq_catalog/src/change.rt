@@ -182,7 +182,7 @@ pub enum Beside {
 
 /// Why a change is refused.
 #[derive(Debug, Drop)]
-pub enum ChangeFault {
+pub enum Cause {
     /// The name is taken.
     Exists(Name),
     /// There is nothing of this name.
@@ -193,6 +193,12 @@ pub enum ChangeFault {
     InPrimaryKey(Name),
     /// The table would have over 1,600 columns.
     TooManyColumns(Name),
+}
+
+/// Why a change is not made.
+#[derive(Debug, Drop)]
+pub enum ChangeFault {
+    Refused(Cause),
     /// Memory was wanting, or no id is left.
     Memory,
 }

@@ -8,7 +8,7 @@ ghost use Rattle.sq_catalog.specs.Answers.{Answers};
 ghost use Rattle.sq_catalog.specs.Dropping.{id_of, has_id, is_of, uses, is_over, in_use, with_fallen, fallen, goes_at, strip_at, stripped, enum_stays, domain_stays, without_types, id_dropped, type_id, type_dropped, domain_id, domain_dropped, table_in, enum_in, domain_in, enum_id_in, domain_id_in, holds, types_in, without_schema, without_held, held_dropped, schema_dropped};
 
 use crate::keys::drop_at;
-use crate::{Catalogue, ChangeFault, DomainType, EnumType, Table, Target};
+use crate::{Catalogue, Cause, ChangeFault, DomainType, EnumType, Table, Target};
 use sq_base::{Name, PgType, Scalar};
 use std::alloc::{AllocError, Global};
 
@@ -249,7 +249,7 @@ impl Catalogue {
         let mut ids = Vec::new(self.alloc);
         ids.push(id)?;
         if !cascade && self.in_use(ids.as_slice()) {
-            return Err(ChangeFault::InUse(name));
+            return Err(ChangeFault::Refused(Cause::InUse(name)));
         }
         let all = fallen(ids, self.domains.as_slice())?;
         self.remove_types(all.as_slice());
@@ -279,7 +279,7 @@ impl Catalogue {
         match self.type_id(of.schema.as_str(), of.name.as_str()) {
             Some(id) => self.drop_id(of.name, id, cascade),
             None if of.if_exists => Ok(()),
-            None => Err(ChangeFault::Missing(of.name)),
+            None => Err(ChangeFault::Refused(Cause::Missing(of.name))),
         }
     }
 
@@ -290,7 +290,7 @@ impl Catalogue {
         match self.domain_id(of.schema.as_str(), of.name.as_str()) {
             Some(id) => self.drop_id(of.name, id, cascade),
             None if of.if_exists => Ok(()),
-            None => Err(ChangeFault::Missing(of.name)),
+            None => Err(ChangeFault::Refused(Cause::Missing(of.name))),
         }
     }
 
@@ -344,7 +344,7 @@ impl Catalogue {
         ensures { Answers self.old (held_dropped self.old schema cascade) self.new result }
     {
         if self.is_in_the_way(schema.as_str(), cascade) {
-            return Err(ChangeFault::InUse(schema));
+            return Err(ChangeFault::Refused(Cause::InUse(schema)));
         }
         self.remove_held(schema.as_str())
     }
@@ -364,6 +364,6 @@ impl Catalogue {
         if if_exists {
             return Ok(());
         }
-        Err(ChangeFault::Missing(schema))
+        Err(ChangeFault::Refused(Cause::Missing(schema)))
     }
 }

@@ -7,7 +7,7 @@ ghost use Rattle.sq_catalog.specs.Answers.{Answers, Gives, and_then};
 ghost use Rattle.sq_catalog.specs.Keys.{key_name, places_of, new_key, key_of, all_marked, with_key, with_key_of, limited, completed, in_key, moved, key_without, without_column};
 
 use crate::columns::{column, mark_at, take_columns};
-use crate::{ChangeFault, Column, Key, Keys, NewKey, Table};
+use crate::{Cause, ChangeFault, Column, Key, Keys, NewKey, Table};
 use sq_base::{List, Name};
 use std::alloc::{AllocError, Global};
 
@@ -40,7 +40,7 @@ fn places_of(alloc: Global, table: &Table, names: List<Name>) -> Result<List<u32
     let mut places = List::new(alloc);
     for name in names.into_vec() {
         let Some(at) = column(table, name.as_str()) else {
-            return Err(ChangeFault::Missing(name));
+            return Err(ChangeFault::Refused(Cause::Missing(name)));
         };
         // a place past 32 bits would take more memory than there is
         let Ok(place) = u32::try_from(at) else {
@@ -57,7 +57,7 @@ fn new_key(alloc: Global, table: &Table, new: NewKey) -> Result<Key, ChangeFault
 {
     if table.key.is_some() {
         let words = Name::new(alloc, "PRIMARY KEY")?;
-        return Err(ChangeFault::Exists(words));
+        return Err(ChangeFault::Refused(Cause::Exists(words)));
     }
     let NewKey { name, columns } = new;
     let columns = places_of(alloc, table, columns)?;
@@ -77,7 +77,7 @@ fn key_of(alloc: Global, table: &Table, keys: Keys) -> Result<Option<Key>, Chang
         }
         Keys::Several => {
             let words = Name::new(alloc, "PRIMARY KEY")?;
-            Err(ChangeFault::Exists(words))
+            Err(ChangeFault::Refused(Cause::Exists(words)))
         }
     }
 }
@@ -116,7 +116,7 @@ fn limited(alloc: Global, table: &Table) -> Result<(), ChangeFault>
 {
     if MOST_COLUMNS < table.columns.len() {
         let name = table.name.copy(alloc)?;
-        return Err(ChangeFault::TooManyColumns(name));
+        return Err(ChangeFault::Refused(Cause::TooManyColumns(name)));
     }
     Ok(())
 }

@@ -7,7 +7,7 @@ ghost use Rattle.sq_catalog.specs.Answers.{Answers, Gives};
 ghost use Rattle.sq_catalog.specs.UserTypes.{place_of_label, is_among, repeated_label, distinct_labels, label_place, label_added, instead, label_renamed_at, label_renamed};
 ghost use Rattle.sq_catalog.specs.Columns.{change_at};
 
-use crate::{Beside, ChangeFault};
+use crate::{Beside, Cause, ChangeFault};
 use sq_base::{List, Name};
 use std::alloc::{AllocError, Global};
 use std::mem;
@@ -49,7 +49,7 @@ pub(crate) fn check_labels(alloc: Global, labels: &[Name]) -> Result<(), ChangeF
     match repeated_label(labels) {
         Some(label) => {
             let label = label.copy(alloc)?;
-            Err(ChangeFault::Exists(label))
+            Err(ChangeFault::Refused(Cause::Exists(label)))
         }
         None => Ok(()),
     }
@@ -64,11 +64,11 @@ fn label_place(labels: &[Name], beside: Beside) -> Result<usize, ChangeFault>
         Beside::Last => Ok(labels.len()),
         Beside::Before(other) => match place_of_label(labels, other.as_str()) {
             Some(at) => Ok(at),
-            None => Err(ChangeFault::Missing(other)),
+            None => Err(ChangeFault::Refused(Cause::Missing(other))),
         },
         Beside::After(other) => match place_of_label(labels, other.as_str()) {
             Some(at) => Ok(at + 1),
-            None => Err(ChangeFault::Missing(other)),
+            None => Err(ChangeFault::Refused(Cause::Missing(other))),
         },
     }
 }
@@ -105,7 +105,7 @@ pub(crate) fn add_label(
         return if if_not_exists {
             Ok(())
         } else {
-            Err(ChangeFault::Exists(label))
+            Err(ChangeFault::Refused(Cause::Exists(label)))
         };
     }
     let at = label_place(labels.as_slice(), beside)?;
@@ -127,7 +127,7 @@ fn rename_label_at(labels: &mut List<Name>, at: usize, to: Name) -> Result<(), C
     ensures { Answers labels.old (label_renamed_at labels.old at to) labels.new result }
 {
     match place_of_label(labels.as_slice(), to.as_str()) {
-        Some(_) => Err(ChangeFault::Exists(to)),
+        Some(_) => Err(ChangeFault::Refused(Cause::Exists(to))),
         None => {
             set_label(labels, at, to);
             Ok(())
@@ -141,6 +141,6 @@ pub(crate) fn rename_label(labels: &mut List<Name>, from: Name, to: Name) -> Res
 {
     match place_of_label(labels.as_slice(), from.as_str()) {
         Some(at) => rename_label_at(labels, at, to),
-        None => Err(ChangeFault::Missing(from)),
+        None => Err(ChangeFault::Refused(Cause::Missing(from))),
     }
 }

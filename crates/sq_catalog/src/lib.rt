@@ -13,7 +13,7 @@ mod tables;
 mod user_types;
 
 pub use catalogue::Catalogue;
-pub use change::{Action, Beside, Change, ChangeFault, Keys, NewKey, Target};
+pub use change::{Action, Beside, Cause, Change, ChangeFault, Keys, NewKey, Target};
 pub use columns::{column, placed_column};
 pub use keys::primary_key;
 pub use table::{Column, DomainType, EnumType, Key, Table};

@@ -9,7 +9,7 @@ ghost use Rattle.sq_catalog.specs.Catalogue.{schema_created, is_repeated, repeat
 
 use crate::action::act;
 use crate::keys::complete;
-use crate::{Action, Catalogue, ChangeFault, Column, Keys, Table, Target};
+use crate::{Action, Catalogue, Cause, ChangeFault, Column, Keys, Table, Target};
 use sq_base::{List, Name};
 use std::alloc::Global;
 
@@ -44,7 +44,7 @@ fn check_columns(alloc: Global, columns: &[Column]) -> Result<(), ChangeFault>
     match repeated_column(columns) {
         Some(name) => {
             let name = name.copy(alloc)?;
-            Err(ChangeFault::Exists(name))
+            Err(ChangeFault::Refused(Cause::Exists(name)))
         }
         None => Ok(()),
     }
@@ -92,7 +92,7 @@ impl Catalogue {
         if if_not_exists || name.as_str() == "public" {
             return Ok(());
         }
-        Err(ChangeFault::Exists(name))
+        Err(ChangeFault::Refused(Cause::Exists(name)))
     }
 
     // Adds a table, which has the next id.
@@ -139,7 +139,7 @@ impl Catalogue {
     {
         match self.place_of(schema.as_str(), name.as_str()) {
             Some(_) if if_not_exists => Ok(()),
-            Some(_) => Err(ChangeFault::Exists(name)),
+            Some(_) => Err(ChangeFault::Refused(Cause::Exists(name))),
             None => self.make_table(schema, name, columns, keys),
         }
     }
@@ -154,7 +154,7 @@ impl Catalogue {
                 Ok(())
             }
             None if table.if_exists => Ok(()),
-            None => Err(ChangeFault::Missing(table.name)),
+            None => Err(ChangeFault::Refused(Cause::Missing(table.name))),
         }
     }
 
@@ -165,7 +165,7 @@ impl Catalogue {
         match self.place_of(table.schema.as_str(), table.name.as_str()) {
             Some(at) => act(self.alloc, &mut self.tables[at], action),
             None if table.if_exists => Ok(()),
-            None => Err(ChangeFault::Missing(table.name)),
+            None => Err(ChangeFault::Refused(Cause::Missing(table.name))),
         }
     }
 
@@ -175,7 +175,7 @@ impl Catalogue {
         ensures { Answers self.old (renamed_at self.old at schema to) self.new result }
     {
         match self.place_of(schema.as_str(), to.as_str()) {
-            Some(_) => Err(ChangeFault::Exists(to)),
+            Some(_) => Err(ChangeFault::Refused(Cause::Exists(to))),
             None => {
                 set_name(&mut self.tables, at, to);
                 Ok(())
@@ -189,7 +189,7 @@ impl Catalogue {
         ensures { Answers self.old (moved_at self.old at name to) self.new result }
     {
         match self.place_of(to.as_str(), name.as_str()) {
-            Some(_) => Err(ChangeFault::Exists(name)),
+            Some(_) => Err(ChangeFault::Refused(Cause::Exists(name))),
             None => {
                 set_schema(&mut self.tables, at, to);
                 Ok(())
@@ -204,7 +204,7 @@ impl Catalogue {
         match self.place_of(table.schema.as_str(), table.name.as_str()) {
             Some(at) => self.rename_at(at, table.schema, to),
             None if table.if_exists => Ok(()),
-            None => Err(ChangeFault::Missing(table.name)),
+            None => Err(ChangeFault::Refused(Cause::Missing(table.name))),
         }
     }
 
@@ -215,7 +215,7 @@ impl Catalogue {
         match self.place_of(table.schema.as_str(), table.name.as_str()) {
             Some(at) => self.move_at(at, table.name, to),
             None if table.if_exists => Ok(()),
-            None => Err(ChangeFault::Missing(table.name)),
+            None => Err(ChangeFault::Refused(Cause::Missing(table.name))),
         }
     }
 }

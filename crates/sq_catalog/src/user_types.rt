@@ -7,7 +7,7 @@ ghost use Rattle.sq_catalog.specs.UserTypes.{is_enum, is_domain, place_of_enum, 
 ghost use Rattle.sq_catalog.specs.Columns.{change_at};
 
 use crate::labels::{add_label, check_labels, rename_label};
-use crate::{Beside, Catalogue, ChangeFault, DomainType, EnumType};
+use crate::{Beside, Catalogue, Cause, ChangeFault, DomainType, EnumType};
 use sq_base::{List, Name, PgType, Scalar};
 
 // Whether an enumeration has this schema and this name.
@@ -167,7 +167,7 @@ impl Catalogue {
     {
         if self.type_named(schema, name).is_some() {
             let name = Name::new(self.alloc, name)?;
-            return Err(ChangeFault::Exists(name));
+            return Err(ChangeFault::Refused(Cause::Exists(name)));
         }
         Ok(())
     }
@@ -234,7 +234,7 @@ impl Catalogue {
         ensures { Answers self.old (value_added self.old schema name label if_not_exists beside) self.new result }
     {
         let Some(at) = self.place_of_enum(schema.as_str(), name.as_str()) else {
-            return Err(ChangeFault::Missing(name));
+            return Err(ChangeFault::Refused(Cause::Missing(name)));
         };
         let labels = &mut self.enums[at].labels;
         add_label(self.alloc, labels, label, if_not_exists, beside)
@@ -251,7 +251,7 @@ impl Catalogue {
         ensures { Answers self.old (value_renamed self.old schema name from to) self.new result }
     {
         let Some(at) = self.place_of_enum(schema.as_str(), name.as_str()) else {
-            return Err(ChangeFault::Missing(name));
+            return Err(ChangeFault::Refused(Cause::Missing(name)));
         };
         let labels = &mut self.enums[at].labels;
         rename_label(labels, from, to)
@@ -274,7 +274,7 @@ impl Catalogue {
     {
         if self.type_named(schema, name).is_none() {
             let name = Name::new(self.alloc, name)?;
-            return Err(ChangeFault::Missing(name));
+            return Err(ChangeFault::Refused(Cause::Missing(name)));
         }
         Ok(())
     }
@@ -284,7 +284,7 @@ impl Catalogue {
         ensures { Answers self.old (domain_changed (domain_titled to) self.old schema name) self.new result }
     {
         match self.place_of_domain(schema.as_str(), name.as_str()) {
-            None => Err(ChangeFault::Missing(name)),
+            None => Err(ChangeFault::Refused(Cause::Missing(name))),
             Some(at) => {
                 set_domain_name(&mut self.domains, at, to);
                 Ok(())
@@ -310,7 +310,7 @@ impl Catalogue {
         ensures { Answers self.old (domain_changed (domain_housed to) self.old schema name) self.new result }
     {
         match self.place_of_domain(schema.as_str(), name.as_str()) {
-            None => Err(ChangeFault::Missing(name)),
+            None => Err(ChangeFault::Refused(Cause::Missing(name))),
             Some(at) => {
                 set_domain_schema(&mut self.domains, at, to);
                 Ok(())

@@ -1,12 +1,21 @@
+mod AggregateLemmas
 mod AnswerLemmas
-pub mod Ascii
-mod BindLemmas
-mod FieldLemmas
-mod FormLemmas
+mod CallLemmas
+mod ChangeLemmas
+mod ColumnLemmas
 mod FrameLemmas
-mod PackageLemmas
+mod InsertLemmas
+mod JoinLemmas
+mod LawLemmas
+mod OperationLemmas
+mod PossibleLemmas
+mod PrintLemmas
+mod QueryLemmas
+mod SetLemmas
 mod Soundness
+mod StatementSoundness
 mod StoredLemmas
+mod SumLemmas
 mod TypeLemmas
 mod TypingRules
-mod WordLemmas
+mod ValueLemmas

@@ -1,79 +1,184 @@
--- A query of one column gives what is stored, and empty tables fit.
-use Rattle.std.proofs.Common.{◌≡◌, ℕ, List, [], ◌∷◌, map, Option, Some, None, slice_get, unwrap_or, option_map, refl, sym, subst, IsSome}
+-- The SELECT of one column gives what is stored.
+use Rattle.std.proofs.Common.{◌≡◌, ℕ, Bool, true, false, if◌then◌else◌, List, [], ◌∷◌, map, flat_map, Option, Some, None, slice_get, unwrap_or, refl, ap, subst, ◌∙◌, option_map}
 use Rattle.std.proofs.lemmas.Option.{slice_get-map}
+use Rattle.std.specs.List.{AllByRecursion}
 use Rattle.std.specs.Prelude.{IsSomeAnd}
-use Rattle.std.specs.List.{AllZip}
 use Rattle.sq_base.specs.declared.types.PgType.{PgType}
 use Rattle.sq_catalog.specs.Contents.{Contents}
 use Rattle.sq_catalog.specs.declared.table.Column.{Column as TableColumn}
-use Rattle.sq_catalog.specs.declared.table.Table.{Table}
-use Rattle.sq_core.specs.declared.signature.Language.{Language}
-use Rattle.sq_core.specs.declared.signature.Param.{Param}
+use Rattle.sq_catalog.specs.declared.table.Table.{Table as CatalogTable}
+use Rattle.sq_core.specs.declared.node.Node.{Node, Row_of-Node, end_of-Node, more_of-Node, items-the_row-Node, items_hidden-the_row-Node-0}
+use Rattle.sq_core.specs.declared.node.Node.TheBlock as block
 use Rattle.sq_core.specs.declared.node.Node.TheVariants.{Column}
-use Rattle.sq_core.specs.Answer.{Gives, Stuck, ◌>>=◌, all_of, pure}
-use Rattle.sq_core.specs.Client.{ClientValue, Item}
-use Rattle.sq_core.specs.Frames.{One, Joined}
-use Rattle.sq_core.specs.Run.{Meaning, Rows, evaluate, found, alone, row_frames, node_run}
-use Rattle.sq_core.specs.Stored.{HasColumn, GivesStored, IsMissing, IsStuck, one_column, value_in}
-use Rattle.sq_core.specs.Values.{Null, Kind, Row, Database, DatabaseFits, Fits, RowsFit, table_kinds, column_kind, empty_tables}
+use Rattle.sq_core.specs.declared.node.Query.TheVariants.{Select as SelectQuery}
+use Rattle.sq_core.specs.declared.node.Source.{Source, Row_of-Source, end_of-Source, more_of-Source, items-the_row-Source, items_hidden-the_row-Source-2}
+use Rattle.sq_core.specs.declared.node.Source.TheVariants.{Table}
+use Rattle.sq_core.specs.declared.routine.Manner.{Manner}
+use Rattle.sq_shown.specs.declared.signature.Param.{Param}
+use Rattle.sq_core.specs.Answer.{Gives, ◌>>=◌, go_on, pure, stuck, all_of}
+use Rattle.sq_core.specs.Frames.{Answered, Drawn, Frame, One, Joined, Setting, enter, one_row, no_rows, both_rows, nulls}
+use Rattle.sq_core.specs.Items.{Item, Run, found}
+use Rattle.sq_core.specs.Joins.{kept, crossed}
+use Rattle.sq_core.specs.Laws.{value_in, GivesStored, HasColumn}
+use Rattle.sq_core.specs.Operations.{Meaning, evaluate, expect}
+use Rattle.sq_core.specs.Queries.{alone, arranged_by, Rows, frames_of, stored, nothing_drawn, drawn_all, own_rows, own_groups, with_all, beside, selected}
+use Rattle.sq_core.specs.Run.{node_run, node_runs, query_run, source_run, source_runs}
+use Rattle.sq_core.specs.Statements.{outermost}
+use Rattle.sq_core.specs.Values.{Value, Null, Row, Database, DatabaseFits, kind, Fits, RowsFit, fits, tag, Tag, column_kind, table_kinds}
 use Rattle.sq_core.proofs.FrameLemmas.{Leads, get_leads}
+use Rattle.sq_core.proofs.ValueLemmas.{fits_tag}
 
-no_rows_fit : (contents : Contents) (tables : List Table) → AllZip (λ table. RowsFit contents (table_kinds table)) tables (map (λ (table : Table). []) tables)
-no_rows_fit contents [] = tt
-no_rows_fit contents (table ∷ tables) = (tt, no_rows_fit contents tables)
+module _ (contents : Contents) (params : List Param) (database : Database) (arguments : List Value) where
+  runs-items : (n : _) (row : Row_of-Node n) → node_runs contents params database arguments row ≡ map (node_run contents params database arguments) (items-the_row-Node n row)
+  runs-items _ end_of-Node = refl
+  runs-items _ (more_of-Node node rest) = ap (λ ms. node_run contents params database arguments node ∷ ms) (runs-items _ rest)
 
-pub empty_fit : (contents : Contents) → DatabaseFits contents (empty_tables contents)
-empty_fit contents = no_rows_fit contents contents.tables
+  pub runs-hidden : (nodes : List Node) → node_runs contents params database arguments (block.hidden-the_row-Node-0 nodes) ≡ map (node_run contents params database arguments) nodes
+  runs-hidden nodes = runs-items _ (block.hidden-the_row-Node-0 nodes) ∙ ap (map (node_run contents params database arguments)) (items_hidden-the_row-Node-0 nodes)
 
--- what stands beside something that is there
-beside : {A B : Type 0} (R : A → B → Type 0) (one : Option A) (other : Option B) (otherwise : B) → IsSome one → Leads R one other → other ≡ Some (unwrap_or other otherwise)
-beside R (Some x) (Some y) otherwise there leads = refl
-beside R (Some x) None otherwise there leads = absurd leads
-beside R None other otherwise there leads = cc
+  sources-items : (n : _) (row : Row_of-Source n) → source_runs contents params database arguments row ≡ map (source_run contents params database arguments) (items-the_row-Source n row)
+  sources-items _ end_of-Source = refl
+  sources-items _ (more_of-Source source rest) = ap (λ ms. source_run contents params database arguments source ∷ ms) (sources-items _ rest)
 
-module _ (language : Language) (contents : Contents) (params : List Param) (database : Database) (arguments : List ClientValue) (column : ℕ) (of : PgType) where
-  -- the column's meaning alone
-  abbrev meanings : List Meaning
-  meanings = map (node_run language contents params database arguments) (Column 0 0 column of ∷ [])
+  sources-hidden : (from : List Source) → source_runs contents params database arguments (block.hidden-the_row-Source-2 from) ≡ map (source_run contents params database arguments) from
+  sources-hidden from = sources-items _ (block.hidden-the_row-Source-2 from) ∙ ap (map (source_run contents params database arguments)) (items_hidden-the_row-Source-2 from)
 
-  row_stored : (row : Row) (all : List Joined) (oracle : List Item) → slice_get row column ≡ Some (value_in column row)
-      → evaluate meanings (One (row ∷ []) all ∷ []) oracle ≡ Gives (value_in column row ∷ []) oracle
-  row_stored row all oracle there = rw there
+  -- the run of a SELECT over lists
+  pub query_run-Select : (manner : Manner) (from : List Source) (conditions groups having outputs keys : List Node) (setting : Setting) → query_run contents params database arguments (SelectQuery manner from conditions groups having outputs keys) setting
+      ≡ drawn_all (map (source_run contents params database arguments) from) setting
+      >>= selected manner (map (node_run contents params database arguments) conditions) (map (node_run contents params database arguments) groups) (map (node_run contents params database arguments) having)
+      (map (node_run contents params database arguments) outputs) (map (node_run contents params database arguments) keys) setting
+  query_run-Select manner from conditions groups having outputs keys setting = λ i. drawn_all (sources-hidden from i) setting
+      >>= selected manner (runs-hidden conditions i) (runs-hidden groups i) (runs-hidden having i) (runs-hidden outputs i) (runs-hidden keys i) setting
 
-  rows_stored : (kinds : List Kind) (rows : List Row) (all : List Joined) (oracle : List Item) → IsSome (slice_get kinds column) → RowsFit contents kinds rows
-      → all_of (map (λ frame. evaluate meanings (frame ∷ [])) (map (λ row. One row all) (alone rows))) oracle ≡ Gives (map (λ row. value_in column row ∷ []) rows) oracle
-  rows_stored kinds [] all oracle there fit = refl
-  rows_stored kinds (row ∷ rows) all oracle there fit =
-      rw (
-        row_stored row all oracle (beside (Fits contents) (slice_get kinds column) (slice_get row column) Null there (get_leads (Fits contents) kinds row column fit.0)),
-        rows_stored kinds rows all oracle there fit.1,
-      )
+-- without a condition all are kept
+kept_none : {A : Type 0} (place : A → Setting) (xs : List A) (oracle : List Item) → kept [] place xs oracle ≡ Gives xs oracle
+kept_none place [] oracle = refl
+kept_none place (x ∷ xs) oracle = ap (λ answer. go_on answer (λ rest. pure (x ∷ rest))) (kept_none place xs oracle)
 
-  stored_in : (table : Option Table) (rows : Option (List Row)) (oracle : List Item) → IsSomeAnd table (λ t. IsSome (slice_get t.columns column))
-      → Leads (λ t. RowsFit contents (table_kinds t)) table rows
-      → (found rows >>= (λ rows. all_of (map (λ frame. evaluate meanings (frame ∷ [])) (row_frames (alone rows)))) >>= (λ rows. pure {A = Rows} (record { rows = rows; database = database }))) oracle
-      ≡ Gives (record { rows = map (λ row. value_in column row ∷ []) (unwrap_or rows []); database = database }) oracle
-  stored_in (Some t) (Some rows) oracle there leads = rw (rows_stored (table_kinds t) rows (alone rows) oracle (subst IsSome (sym (slice_get-map column_kind t.columns column)) (mapped (slice_get t.columns column) there)) leads)
+crossed_alone : (rows : List Row) → flat_map (λ l. map (λ r. both_rows l r []) (no_rows ∷ [])) (map one_row rows) ≡ map one_row rows
+crossed_alone [] = refl
+crossed_alone (row ∷ rows) = ap (λ rest. one_row row ∷ rest) (crossed_alone rows)
+
+-- the frames of rows with all rows beside them
+frames_beside : (all : List Joined) (groups : List (List Joined)) (rows : List Row) → map (with_all all groups) (map (λ joined. One joined []) (map one_row rows)) ≡ map (λ row. One (one_row row) all) rows
+frames_beside all groups [] = refl
+frames_beside all groups (row ∷ rows) = ap (λ frames. One (one_row row) all ∷ frames) (frames_beside all groups rows)
+
+-- a value that is there and has the tag
+abbrev IsHeld : Tag → Option Value → Type 0
+IsHeld of value = IsSomeAnd value (λ v. Fits (kind of true) v)
+
+held_given : (of : Tag) (value : Option Value) (oracle : List Item) → IsHeld of value → (found value >>= expect of) oracle ≡ Gives (unwrap_or value Null) oracle
+held_given of (Some v) oracle held = tested (fits (kind of true) v) held
+  where
+    tested : (b : Bool) → b ≡ true → (if b then pure v else stuck) oracle ≡ Gives v oracle
+    tested true holds = refl
+    tested false holds = cc
+held_given of None oracle held = absurd held
+
+-- one value for each row
+values_given : (of : Tag) (column : ℕ) (rows : List Row) (oracle : List Item) → AllByRecursion (λ row. IsHeld of (slice_get row column)) rows
+    → all_of (map (λ row. all_of ((found (slice_get row column) >>= expect of) ∷ [])) rows) oracle ≡ Gives (map (λ row. value_in column row ∷ []) rows) oracle
+values_given of column [] oracle held = refl
+values_given of column (row ∷ rows) oracle held =
+    ap (λ answer. go_on (go_on answer (λ a. all_of [] >>= (λ rest. pure (a ∷ rest)))) (λ a. all_of (map (λ row. all_of ((found (slice_get row column) >>= expect of) ∷ [])) rows) >>= (λ rest. pure (a ∷ rest)))) (held_given of (slice_get row column) oracle held.0)
+    ∙ ap (λ answer. go_on answer (λ rest. pure ((value_in column row ∷ []) ∷ rest))) (values_given of column rows oracle held.1)
+
+module _ (contents : Contents) (database : Database) (table column : ℕ) (of : PgType) where
+  -- the column's run
+  abbrev column_run : Meaning
+  column_run = node_run contents [] database [] (Column (record { depth = 0; range = 0; column = column }) of)
+
+  -- the same for the frames of the rows
+  frames_given : (all : List Joined) (rows : List Row) (oracle : List Item) → AllByRecursion (λ row. IsHeld (tag contents of) (slice_get row column)) rows
+      → all_of (map (λ frame. evaluate (column_run ∷ []) (enter outermost frame)) (map (λ row. One (one_row row) all) rows)) oracle ≡ Gives (map (λ row. value_in column row ∷ []) rows) oracle
+  frames_given all rows oracle held = ap (λ runs. all_of runs oracle) (same rows) ∙ values_given (tag contents of) column rows oracle held
     where
-      mapped : (c : Option TableColumn) → IsSome c → IsSome (option_map column_kind c)
-      mapped (Some c) there = refl
-      mapped None there = cc
-  stored_in (Some t) None oracle there leads = absurd leads
-  stored_in None rows oracle there leads = absurd there
+      same : (rows : List Row) → map (λ frame. evaluate (column_run ∷ []) (enter outermost frame)) (map (λ row. One (one_row row) all) rows) ≡ map (λ row. all_of ((found (slice_get row column) >>= expect (tag contents of)) ∷ [])) rows
+      same [] = refl
+      same (row ∷ rows) = ap (λ rest. all_of ((found (slice_get row column) >>= expect (tag contents of)) ∷ []) ∷ rest) (same rows)
 
-pub one_column_stored : (contents : Contents) (database : Database) (table column : ℕ) (of : PgType) → DatabaseFits contents database → HasColumn contents table column
-    → GivesStored contents database table column of
-one_column_stored contents database table column of fitting there language params arguments oracle =
-    stored_in language contents params database arguments column of (slice_get contents.tables table) (slice_get database table) oracle there
-    (get_leads (λ t. RowsFit contents (table_kinds t)) contents.tables database table fitting)
+  no_keys : (frames : List Frame) (oracle : List Item) → all_of (map (λ frame. evaluate [] (enter outermost frame)) frames) oracle ≡ Gives (map (λ frame. []) frames) oracle
+  no_keys [] oracle = refl
+  no_keys (frame ∷ frames) oracle = ap (λ answer. go_on answer (λ rest. pure ([] ∷ rest))) (no_keys frames oracle)
 
-missing_in : (language : Language) (contents : Contents) (params : List Param) (database : Database) (arguments : List ClientValue) (column : ℕ) (of : PgType) (rows : Option (List Row)) (oracle : List Item)
-    → IsMissing rows column
-    → (found rows >>= (λ rows. all_of (map (λ frame. evaluate (meanings language contents params database arguments column of) (frame ∷ [])) (row_frames (alone rows)))) >>= (λ rows. pure {A = Rows} (record { rows = rows; database = database }))) oracle
-    ≡ Stuck
-missing_in language contents params database arguments column of None oracle missing = refl
-missing_in language contents params database arguments column of (Some []) oracle missing = absurd missing
-missing_in language contents params database arguments column of (Some (row ∷ more)) oracle missing = rw missing
+  abbrev plain : Manner
+  plain = record { grouped = false; distinct = false; ordered = false }
 
-pub one_column_missing : (contents : Contents) (database : Database) (table column : ℕ) (of : PgType) → IsMissing (slice_get database table) column → IsStuck contents database (one_column table column of)
-one_column_missing contents database table column of missing language params arguments oracle = missing_in language contents params database arguments column of (slice_get database table) oracle missing
+  -- what is left after WHERE
+  abbrev rest_of_select : List Joined → Run Answered
+  rest_of_select rows = kept [] (enter outermost) (map (λ row. One row []) rows)
+      >>= (λ frames. all_of (map (λ frame. evaluate (column_run ∷ []) (enter outermost frame)) (beside frames))
+      >>= (λ answers. all_of (map (λ frame. evaluate [] (enter outermost frame)) (beside frames))
+      >>= (λ values. arranged_by plain answers >>= (λ rows. pure (record { blank = nulls (column_run ∷ []); rows = rows })))))
+
+  abbrev after_having : List Frame → Run Answered
+  after_having frames = all_of (map (λ frame. evaluate (column_run ∷ []) (enter outermost frame)) (beside frames))
+      >>= (λ answers. all_of (map (λ frame. evaluate [] (enter outermost frame)) (beside frames))
+      >>= (λ values. arranged_by plain answers >>= (λ rows. pure (record { blank = nulls (column_run ∷ []); rows = rows }))))
+
+  abbrev stored_rows : List Row → Answered
+  stored_rows rows = record { blank = Null ∷ []; rows = map (λ row. value_in column row ∷ []) rows }
+
+  outputs_given : (rows : List Row) (oracle : List Item) → AllByRecursion (λ row. IsHeld (tag contents of) (slice_get row column)) rows
+      → after_having (map (λ joined. One joined []) (map one_row rows)) oracle ≡ Gives (stored_rows rows) oracle
+  outputs_given rows oracle held =
+      let frames : List Frame = map (λ joined. One joined []) (map one_row rows) in
+      let whole : List Frame = beside frames in
+      let same : whole ≡ map (λ row. One (one_row row) (own_rows frames)) rows = frames_beside (own_rows frames) (own_groups frames) rows in
+      ap (λ fs. go_on (all_of (map (λ frame. evaluate (column_run ∷ []) (enter outermost frame)) fs) oracle) (λ answers. all_of (map (λ frame. evaluate [] (enter outermost frame)) whole)
+      >>= (λ values. arranged_by plain answers >>= (λ rows. pure (record { blank = nulls (column_run ∷ []); rows = rows }))))) same
+      ∙ ap (λ answer. go_on answer (λ answers. all_of (map (λ frame. evaluate [] (enter outermost frame)) whole)
+      >>= (λ values. arranged_by plain answers >>= (λ rows. pure (record { blank = nulls (column_run ∷ []); rows = rows }))))) (frames_given (own_rows frames) rows oracle held)
+      ∙ ap (λ answer. go_on answer (λ values. arranged_by plain (map (λ row. value_in column row ∷ []) rows) >>= (λ rows. pure (record { blank = nulls (column_run ∷ []); rows = rows })))) (no_keys whole oracle)
+
+  selected_given : (blank : Joined) (rows : List Row) (oracle : List Item) → AllByRecursion (λ row. IsHeld (tag contents of) (slice_get row column)) rows
+      → selected plain [] [] [] (column_run ∷ []) [] outermost (record { blank = blank; rows = map one_row rows }) oracle ≡ Gives (stored_rows rows) oracle
+  selected_given blank rows oracle held =
+      ap (λ answer. go_on (go_on (go_on answer (frames_of Rows [] outermost)) (kept [] (enter outermost))) after_having) (kept_none (λ row. enter outermost (One row [])) (map one_row rows) oracle)
+      ∙ ap (λ answer. go_on answer after_having) (kept_none (enter outermost) (map (λ joined. One joined []) (map one_row rows)) oracle)
+      ∙ outputs_given rows oracle held
+
+  -- the rows of a table hold the column
+  rows_hold : (t : CatalogTable) (rows : List Row) → IsSomeAnd (slice_get t.columns column) (λ c. c.of ≡ of) → RowsFit (table_kinds contents t) rows → AllByRecursion (λ row. IsHeld (tag contents of) (slice_get row column)) rows
+  rows_hold t [] has fit = tt
+  rows_hold t (row ∷ rows) has fit = (row_holds (slice_get t.columns column) (slice_get row column) has leads, rows_hold t rows has fit.1)
+    where
+      leads : Leads Fits (option_map (column_kind contents) (slice_get t.columns column)) (slice_get row column)
+      leads = subst (λ o. Leads Fits o (slice_get row column)) (slice_get-map (column_kind contents) t.columns column) (get_leads Fits (table_kinds contents t) row column fit.0)
+
+      row_holds : (c : Option TableColumn) (v : Option Value) → IsSomeAnd c (λ c. c.of ≡ of) → Leads Fits (option_map (column_kind contents) c) v → IsHeld (tag contents of) v
+      row_holds (Some c) (Some v) same fit = fits_tag (column_kind contents c) (tag contents of) v (ap (tag contents) same) fit
+      row_holds (Some c) None same fit = absurd fit
+      row_holds None v same fit = absurd same
+
+  drawn_given : (t : Option CatalogTable) (found_rows : Option (List Row)) (rows : List Row) (oracle : List Item) → found_rows ≡ Some rows → IsSomeAnd t (λ t. IsSomeAnd (slice_get t.columns column) (λ c. c.of ≡ of))
+      → Leads (λ t rows. RowsFit (table_kinds contents t) rows) t found_rows
+      → (found found_rows >>= (λ rows. pure (alone (stored t rows))) >>= (λ left. pure (crossed left nothing_drawn)) >>= selected plain [] [] [] (column_run ∷ []) [] outermost) oracle ≡ Gives (stored_rows rows) oracle
+  drawn_given (Some t) (Some own) rows oracle same has fit =
+      let equal : own ≡ rows = ap (λ o. unwrap_or o []) same in
+      let drawn : Drawn = crossed (alone (stored (Some t) own)) nothing_drawn in
+      ap (λ js. selected plain [] [] [] (column_run ∷ []) [] outermost (record { blank = drawn.blank; rows = js }) oracle) (crossed_alone own)
+      ∙ selected_given drawn.blank own oracle (rows_hold t own has fit)
+      ∙ ap (λ rs. Gives (stored_rows rs) oracle) equal
+  drawn_given (Some t) None rows oracle same has fit = absurd fit
+  drawn_given None found_rows rows oracle same has fit = absurd has
+
+  query_given : (rows : List Row) (oracle : List Item) → DatabaseFits contents database → slice_get database table ≡ Some rows → HasColumn contents table column of
+      → query_run contents [] database [] (SelectQuery plain (Table table ∷ []) [] [] [] (Column (record { depth = 0; range = 0; column = column }) of ∷ []) []) outermost oracle ≡ Gives (stored_rows rows) oracle
+  query_given rows oracle fitting same has =
+      (λ i. query_run-Select contents [] database [] plain (Table table ∷ []) [] [] [] (Column (record { depth = 0; range = 0; column = column }) of ∷ []) [] outermost i oracle)
+      ∙ tables (slice_get contents.tables table) (slice_get database table)
+      ∙ drawn_given (slice_get contents.tables table) (slice_get database table) rows oracle same has (get_leads (λ t rows. RowsFit (table_kinds contents t) rows) contents.tables database table fitting)
+    where
+      tables : (t : Option CatalogTable) (own : Option (List Row))
+          → (found own >>= (λ rows. pure (alone (stored t rows))) >>= (λ left. drawn_all [] outermost >>= (λ right. pure (crossed left right))) >>= selected plain [] [] [] (column_run ∷ []) [] outermost) oracle
+          ≡ (found own >>= (λ rows. pure (alone (stored t rows))) >>= (λ left. pure (crossed left nothing_drawn)) >>= selected plain [] [] [] (column_run ∷ []) [] outermost) oracle
+      tables t (Some own) = refl
+      tables t None = refl
+
+pub column_stored : (contents : Contents) (database : Database) (table column : ℕ) (of : PgType) (rows : List Row) → DatabaseFits contents database → slice_get database table ≡ Some rows → HasColumn contents table column of
+    → GivesStored contents database table column of rows
+column_stored contents database table column of rows fitting same has language oracle =
+    ap (λ answer. go_on answer (λ (answered : Answered). pure (record { rows = answered.rows; database = database }))) (query_given contents database table column of rows oracle fitting same has)

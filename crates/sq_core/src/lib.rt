@@ -1,24 +1,22 @@
-//! What the judges give and the writers take: signatures, their shown forms, and the core of a query.
+//! The core of statements: its types, what a run of it gives, and that what is typed is never stuck.
 #![tactic(auto)]
 
-mod declaration;
-mod form;
-mod identifier;
 mod laws;
-mod naming;
 mod node;
-mod showing;
-mod signature;
+mod routine;
+mod statement;
+mod weak;
 
-pub use declaration::{ModelDecl, QueryFile, QuerySig};
-pub use form::{go_form, is_weak_in_go};
-pub use identifier::{constant_name, model_identifier, numbered, package_name, pascal};
 pub use laws::{
-    empty_tables_fit, null_is_admitted_where_nullable_or_weak, one_column_gives_what_is_stored,
-    select_of_columns_is_typed, typed_is_never_stuck, what_fits_is_bound, what_fits_is_printed,
-    what_is_missing_is_stuck,
+    aggregates_are_strict, calls_are_never_stuck, empty_tables_fit, every_row_is_possible,
+    inserted_row_is_returned, one_column_gives_what_is_stored, operations_are_typed, plus_is_a_row,
+    select_of_columns_is_typed, sum_of_nothing_is_null, text_addition_is_stuck, text_is_as_written,
+    typed_is_never_stuck,
 };
-pub use naming::{fields_are_apart, fields_are_words, identifiers_are_words};
-pub use node::{CoreStatement, Node, Query};
-pub use showing::{fields, shown};
-pub use signature::{Command, Language, Output, Param, Shown, ShownField, Signature};
+pub use node::{Node, Query, Source, Step};
+pub use routine::{
+    Aggregation, Change, Extremum, Inner, JoinKind, Joining, Junction, Manner, Merged, Operation,
+    Routine, SetKind, SetLink, Slot, Truth,
+};
+pub use statement::{Assignment, Cell, Conflict, CoreStatement, Entries};
+pub use weak::Weak;

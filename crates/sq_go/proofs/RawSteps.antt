@@ -2,8 +2,8 @@
 use Rattle.std.proofs.Common.{◌≡◌, ◌<◌, Bool, true, false, [], ◌∷◌, ◌++◌, refl, sym, append-nil, append_assoc, ◌&&◌, drop, length, get_or, nat_eq, arith}
 use Rattle.std.specs.List.{starts_with}
 use Rattle.std.specs.Prelude.{codes}
-use Rattle.sq_core.specs.Lines.{Text}
-use Rattle.sq_core.specs.Layout.{raw, raw_byte, leaving, mark}
+use Rattle.sq_shown.specs.Lines.{Text}
+use Rattle.sq_shown.specs.Layout.{raw, raw_byte, leaving, mark}
 
 -- a test that ends in false fails
 fails : (one : Bool) → (one && false) ≡ true → ⊥

@@ -2,14 +2,14 @@
 
 ghost use Rattle.std.specs.Prelude.{◌≡◌, ◌++◌, ◌∷◌, ◌||◌, [], IfOk, OnOk, map, flat_map};
 ghost use Rattle.std.specs.List.{list_any};
-ghost use Rattle.sq_core.specs.Layout.{constant, is_of_sql, method, model_forms, model_struct, query_declarations, query_forms, row_forms, row_struct, row_type, shown_declarations, targets};
+ghost use Rattle.sq_shown.specs.Layout.{constant, is_of_sql, method, model_forms, model_struct, query_declarations, query_forms, row_forms, row_struct, row_type, shown_declarations, targets};
 
 use crate::line::struct_text;
 use crate::many::many;
 use crate::raw::constant;
 use crate::row::{has_own_struct, model_of, row_name, row_type, row_uses_sql, use_sql};
 use sq_base::{List, Name};
-use sq_core::{Command, ModelDecl, QuerySig, Shown, fields, model_identifier, shown};
+use sq_shown::{Command, ModelDecl, QuerySig, Shown, fields, model_identifier, shown};
 use std::alloc::{AllocError, Global};
 
 /// The declarations so far, and whether one of them uses the package database/sql.
@@ -80,7 +80,7 @@ fn push_method(
 }
 
 // Appends the declarations of a query as it is shown.
-#[tactic(auto, unfolding(sq_core::specs::Layout::shown_declarations))]
+#[tactic(auto, unfolding(sq_shown::specs::Layout::shown_declarations))]
 fn push_shown(
     alloc: Global,
     declarations: &mut List<List<u8>>,

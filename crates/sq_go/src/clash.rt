@@ -2,13 +2,13 @@
 
 ghost use Rattle.std.specs.Prelude.{◌≡◌, ◌++◌, ◌∷◌, [], IfOk, OnOk, map, flat_map, bytes_eq};
 ghost use Rattle.std.specs.List.{list_any};
-ghost use Rattle.sq_core.specs.Layout.{model_name, queries_of, query_path};
-ghost use Rattle.sq_core.specs.Names.{clash, file_names, has_equal, methods, query_row, query_top, top_level};
+ghost use Rattle.sq_shown.specs.Layout.{model_name, queries_of, query_path};
+ghost use Rattle.sq_shown.specs.Names.{clash, file_names, has_equal, methods, query_row, query_top, top_level};
 
 use crate::files::query_path;
 use crate::row::{has_own_struct, model_of, row_name};
 use sq_base::List;
-use sq_core::{ModelDecl, QueryFile, QuerySig, constant_name, model_identifier, shown};
+use sq_shown::{ModelDecl, QueryFile, QuerySig, constant_name, model_identifier, shown};
 use std::alloc::{AllocError, Global};
 
 // Whether a name is one of these.

@@ -1,7 +1,7 @@
 //! The file db.go.
 
 ghost use Rattle.std.specs.Prelude.{◌≡◌, IfOk};
-ghost use Rattle.sq_core.specs.Layout.{db_declarations, db_file, db_imports, file_text};
+ghost use Rattle.sq_shown.specs.Layout.{db_declarations, db_file, db_imports, file_text};
 
 use crate::line::file_text;
 use sq_base::{File, List, Name};
@@ -31,7 +31,7 @@ const WITH_TX: &str = "func (q *Queries) WithTx(tx *sql.Tx) *Queries {\n\
     }\n";
 
 // The declarations of db.go.
-#[tactic(auto, unfolding(sq_core::specs::Layout::db_declarations))]
+#[tactic(auto, unfolding(sq_shown::specs::Layout::db_declarations))]
 fn db_declarations(alloc: Global) -> Result<List<List<u8>>, AllocError>
     ensures { IfOk result (λ declarations. declarations ≡ db_declarations) }
 {
@@ -60,7 +60,7 @@ fn db_text(
 }
 
 /// The file db.go.
-#[tactic(auto, unfolding(sq_core::specs::Layout::db_file))]
+#[tactic(auto, unfolding(sq_shown::specs::Layout::db_file))]
 pub fn db_file(alloc: Global, package_name: &str) -> Result<File, AllocError>
     ensures { IfOk result (λ file. file ≡ db_file package_name.now) }
 {

@@ -1,13 +1,13 @@
 //! The files of a package.
 
 ghost use Rattle.std.specs.Prelude.{◌≡◌, ◌++◌, ◌∷◌, IfOk, OnOk, if◌then◌else◌, [], codes};
-ghost use Rattle.sq_core.specs.Layout.{file_text, layout, models_file, query_file, query_files, query_path};
+ghost use Rattle.sq_shown.specs.Layout.{file_text, layout, models_file, query_file, query_files, query_path};
 
 use crate::body::{Body, model_body, query_body};
 use crate::database::db_file;
 use crate::line::{file_text, push_text};
 use sq_base::{File, List, Name};
-use sq_core::{ModelDecl, QueryFile};
+use sq_shown::{ModelDecl, QueryFile};
 use std::alloc::{AllocError, Global};
 
 // The text of models.go.
@@ -27,7 +27,7 @@ fn models_text(alloc: Global, package_name: &str, body: &Body) -> Result<List<u8
 }
 
 // The file models.go.
-#[tactic(auto, unfolding(sq_core::specs::Layout::models_file))]
+#[tactic(auto, unfolding(sq_shown::specs::Layout::models_file))]
 fn models_file(alloc: Global, package_name: &str, models: &[ModelDecl]) -> Result<File, AllocError>
     ensures { IfOk result (λ file. file ≡ models_file package_name.now models.now) }
 {
@@ -69,7 +69,7 @@ pub fn query_path(alloc: Global, source: &Name) -> Result<Name, AllocError>
 }
 
 // The file of the queries of one source.
-#[tactic(auto, unfolding(sq_core::specs::Layout::query_file))]
+#[tactic(auto, unfolding(sq_shown::specs::Layout::query_file))]
 fn query_file(
     alloc: Global,
     package_name: &str,

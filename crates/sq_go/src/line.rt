@@ -1,11 +1,11 @@
 //! Lines, and the parts of every file.
 
 ghost use Rattle.std.specs.Prelude.{◌≡◌, ◌++◌, IfOk, OnOk, map, flat_map, codes};
-ghost use Rattle.sq_core.specs.Lines.{empty_line, line};
-ghost use Rattle.sq_core.specs.Layout.{declaration_block, field_line, file_text, header, import_block, import_line, struct_text};
+ghost use Rattle.sq_shown.specs.Lines.{empty_line, line};
+ghost use Rattle.sq_shown.specs.Layout.{declaration_block, field_line, file_text, header, import_block, import_line, struct_text};
 
 use sq_base::List;
-use sq_core::ShownField;
+use sq_shown::ShownField;
 use std::alloc::{AllocError, Global};
 
 /// Appends a text.
@@ -150,7 +150,7 @@ fn push_head(out: &mut List<u8>, package_name: &str) -> Result<(), AllocError>
 }
 
 /// The text of a file.
-#[tactic(auto, unfolding(sq_core::specs::Layout::file_text))]
+#[tactic(auto, unfolding(sq_shown::specs::Layout::file_text))]
 pub fn file_text(
     alloc: Global,
     package_name: &str,
@@ -186,7 +186,7 @@ fn push_fields(out: &mut List<u8>, fields: &[ShownField]) -> Result<(), AllocErr
 }
 
 /// The text of a struct.
-#[tactic(auto, unfolding(sq_core::specs::Layout::struct_text))]
+#[tactic(auto, unfolding(sq_shown::specs::Layout::struct_text))]
 pub fn struct_text(
     alloc: Global,
     name: &[u8],

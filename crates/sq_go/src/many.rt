@@ -1,12 +1,12 @@
 //! The method of a :many query.
 
 ghost use Rattle.std.specs.Prelude.{◌≡◌, ◌++◌, IfOk, OnOk};
-ghost use Rattle.sq_core.specs.Layout.{many, many_call, many_end, many_head, many_items, many_row, many_scan, targets};
+ghost use Rattle.sq_shown.specs.Layout.{many, many_call, many_end, many_head, many_items, many_row, many_scan, targets};
 
 use crate::line::{push_behind, push_framed, push_framed_twice, push_line, push_text};
 use crate::row::push_targets;
 use sq_base::List;
-use sq_core::{Shown, constant_name};
+use sq_shown::{Shown, constant_name};
 use std::alloc::{AllocError, Global};
 
 /// Each row is put to the list, and after the last one the rows are closed.
@@ -25,7 +25,7 @@ const END: &str = "\t\t); err != nil {\n\
     }\n";
 
 // Appends the method's first line.
-#[tactic(auto, unfolding(sq_core::specs::Layout::many_head))]
+#[tactic(auto, unfolding(sq_shown::specs::Layout::many_head))]
 fn push_head(out: &mut List<u8>, query: &[u8], row: &[u8]) -> Result<(), AllocError>
     ensures { OnOk result (out.new ≡ out.old ++ many_head query.now row.now) }
 {
@@ -40,7 +40,7 @@ fn push_head(out: &mut List<u8>, query: &[u8], row: &[u8]) -> Result<(), AllocEr
 }
 
 // Appends the call of the database with the constant of this name.
-#[tactic(auto, unfolding(sq_core::specs::Layout::many_call))]
+#[tactic(auto, unfolding(sq_shown::specs::Layout::many_call))]
 fn push_call(out: &mut List<u8>, name: &[u8]) -> Result<(), AllocError>
     ensures { OnOk result (out.new ≡ out.old ++ many_call name.now) }
 {
@@ -48,7 +48,7 @@ fn push_call(out: &mut List<u8>, name: &[u8]) -> Result<(), AllocError>
 }
 
 // Appends what an error does, and the beginning of the list of rows.
-#[tactic(auto, unfolding(sq_core::specs::Layout::many_items))]
+#[tactic(auto, unfolding(sq_shown::specs::Layout::many_items))]
 fn push_items(out: &mut List<u8>, row: &[u8]) -> Result<(), AllocError>
     ensures { OnOk result (out.new ≡ out.old ++ many_items row.now) }
 {
@@ -60,7 +60,7 @@ fn push_items(out: &mut List<u8>, row: &[u8]) -> Result<(), AllocError>
 }
 
 // Appends the beginning of the loop over the rows.
-#[tactic(auto, unfolding(sq_core::specs::Layout::many_row))]
+#[tactic(auto, unfolding(sq_shown::specs::Layout::many_row))]
 fn push_row(out: &mut List<u8>, row: &[u8]) -> Result<(), AllocError>
     ensures { OnOk result (out.new ≡ out.old ++ many_row row.now) }
 {
@@ -68,7 +68,7 @@ fn push_row(out: &mut List<u8>, row: &[u8]) -> Result<(), AllocError>
 }
 
 // Appends the beginning of the scan.
-#[tactic(auto, unfolding(sq_core::specs::Layout::many_scan))]
+#[tactic(auto, unfolding(sq_shown::specs::Layout::many_scan))]
 fn push_scan(out: &mut List<u8>) -> Result<(), AllocError>
     ensures { OnOk result (out.new ≡ out.old ++ many_scan) }
 {
@@ -76,7 +76,7 @@ fn push_scan(out: &mut List<u8>) -> Result<(), AllocError>
 }
 
 // Appends the end of the loop and of the method.
-#[tactic(auto, unfolding(sq_core::specs::Layout::many_end))]
+#[tactic(auto, unfolding(sq_shown::specs::Layout::many_end))]
 fn push_end(out: &mut List<u8>) -> Result<(), AllocError>
     ensures { OnOk result (out.new ≡ out.old ++ many_end) }
 {
@@ -84,7 +84,7 @@ fn push_end(out: &mut List<u8>) -> Result<(), AllocError>
 }
 
 /// The method that gives all rows.
-#[tactic(auto, unfolding(sq_core::specs::Layout::many))]
+#[tactic(auto, unfolding(sq_shown::specs::Layout::many))]
 pub fn many(alloc: Global, query: &Shown, row: &[u8]) -> Result<List<u8>, AllocError>
     ensures { IfOk result (λ text. text ≡ many query.now.name row.now (targets query.now.columns)) }
 {

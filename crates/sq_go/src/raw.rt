@@ -1,12 +1,12 @@
 //! The text of a query within a raw string, and its constant.
 
 ghost use Rattle.std.specs.Prelude.{◌≡◌, ◌++◌, ◌<◌, length, IfOk, OnOk, codes};
-ghost use Rattle.sq_core.specs.Lines.{line};
-ghost use Rattle.sq_core.specs.Layout.{annotation, command_word, constant, leaving, raw, raw_byte};
+ghost use Rattle.sq_shown.specs.Lines.{line};
+ghost use Rattle.sq_shown.specs.Layout.{annotation, command_word, constant, leaving, raw, raw_byte};
 
 use crate::line::{push_line, push_text, push_thrice};
 use sq_base::List;
-use sq_core::{Command, Shown, constant_name};
+use sq_shown::{Command, Shown, constant_name};
 use std::alloc::{AllocError, Global};
 
 /// U+FEFF in UTF-8.
@@ -73,7 +73,7 @@ fn command_word(command: Command) -> &'static str
 }
 
 // Appends the line of an annotation, behind the name of its constant.
-#[tactic(auto, unfolding(sq_core::specs::Layout::annotation))]
+#[tactic(auto, unfolding(sq_shown::specs::Layout::annotation))]
 fn push_annotation(
     out: &mut List<u8>,
     name: &[u8],
@@ -95,7 +95,7 @@ fn push_raw_end(out: &mut List<u8>, text: &[u8]) -> Result<(), AllocError>
 }
 
 /// The constant with a query's text behind its annotation.
-#[tactic(auto, unfolding(sq_core::specs::Layout::constant))]
+#[tactic(auto, unfolding(sq_shown::specs::Layout::constant))]
 pub fn constant(alloc: Global, query: &Shown) -> Result<List<u8>, AllocError>
     ensures { IfOk result (λ text. text ≡ constant query.now) }
 {

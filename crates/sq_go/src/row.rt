@@ -2,11 +2,11 @@
 
 ghost use Rattle.std.specs.Prelude.{◌≡◌, ◌++◌, ℕ, nat_eq, find, IfOk, OnOk, map, flat_map, option_map, codes};
 ghost use Rattle.std.specs.List.{list_any};
-ghost use Rattle.sq_core.specs.Layout.{field_target, forms, has_own_struct, is_of_sql, model_name, model_of, row_forms, row_type, target_line, targets};
+ghost use Rattle.sq_shown.specs.Layout.{field_target, forms, has_own_struct, is_of_sql, model_name, model_of, row_forms, row_type, target_line, targets};
 
 use crate::line::{push_framed, push_text};
 use sq_base::{List, Name};
-use sq_core::{ModelDecl, Shown, ShownField, model_identifier};
+use sq_shown::{ModelDecl, Shown, ShownField, model_identifier};
 use std::alloc::{AllocError, Global};
 
 // The identifier of the model of this id.

@@ -4,12 +4,12 @@
 pub mod cursor;
 pub mod error;
 pub mod lexemes;
-pub mod limits;
 pub mod lists;
 pub mod look_up;
 pub mod marks;
 pub mod name_lists;
 pub mod names;
+pub mod nesting;
 pub mod operators;
 pub mod prepare;
 pub mod texts;

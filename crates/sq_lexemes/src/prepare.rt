@@ -3,12 +3,13 @@
 ghost use Rattle.std.specs.Prelude.{◌≡◌, map, MatchOption};
 ghost use Rattle.sq_base.specs.declared.refusal.Fault.TheVariants.{Refused};
 ghost use Rattle.sq_syntax.specs.Symbols.{lexeme};
-ghost use Rattle.sq_syntax.specs.Tokens.{refusal};
+ghost use Rattle.sq_base.specs.Refusals as refusals;
 ghost use Rattle.sq_lexemes.specs.Answers.{first_place, Exceeds, Prepares, Readable};
 
 use crate::lexemes::lexemes;
-use crate::limits::{MOST_DEPTH, MOST_TOKENS, nesting_depth};
-use sq_base::{Fault, List, Name, Place, Refusal};
+use crate::nesting::nesting_depth;
+use sq_base::limits::{MOST_DEPTH, MOST_TOKENS};
+use sq_base::{Code, Fault, List, Place, Refusal};
 use sq_syntax::{Lexeme, Token};
 use std::alloc::Global;
 
@@ -26,30 +27,25 @@ fn first_place(tokens: &[Token]) -> Place
     }
 }
 
-/// The refusal of this number at the first token, without texts.
-pub fn refused(alloc: Global, number: u8, tokens: &[Token]) -> Fault
-    ensures { result ≡ Refused (refusal number (first_place tokens.now)) }
+/// A refusal at the first token, without texts.
+pub fn refused(alloc: Global, code: Code, tokens: &[Token]) -> Fault
+    ensures { result ≡ Refused (refusals.refused code (first_place tokens.now)) }
 {
-    Fault::Refused(Refusal {
-        number,
-        place: first_place(tokens),
-        first: Name::from_string(String::new(alloc)),
-        second: Name::from_string(String::new(alloc)),
-    })
+    Fault::Refused(Refusal::at(alloc, code, first_place(tokens)))
 }
 
 /// The refusal of tokens that are too many or nest too deep: [4] more than 16,384 tokens; [5]
 /// brackets and CASE that nest more than 64 deep.
 #[tactic(auto, using(crate::proofs::Bounds::depth_of))]
-pub fn exceeded(tokens: &[Token], found: &[Lexeme]) -> Option<u8>
+pub fn exceeded(tokens: &[Token], found: &[Lexeme]) -> Option<Code>
     requires { found.now ≡ map lexeme tokens.now }
-    ensures { MatchOption result (Readable tokens.now) (λ number. Exceeds tokens.now number) }
+    ensures { MatchOption result (Readable tokens.now) (λ code. Exceeds tokens.now code) }
 {
     if tokens.len() > MOST_TOKENS {
-        return Some(4);
+        return Some(Code::TooLong);
     }
     if nesting_depth(found) > MOST_DEPTH {
-        return Some(5);
+        return Some(Code::TooNested);
     }
     None
 }
@@ -62,7 +58,7 @@ pub fn prepared(alloc: Global, tokens: &[Token]) -> Result<List<Lexeme>, Fault>
 {
     let found = lexemes(alloc, tokens)?;
     match exceeded(tokens, found.as_slice()) {
-        Some(number) => Err(refused(alloc, number, tokens)),
+        Some(code) => Err(refused(alloc, code, tokens)),
         None => Ok(found),
     }
 }

@@ -1,11 +1,12 @@
 -- Items that are taken off one by one complete the reading of a text.
 use Rattle.std.proofs.Common.{◌≡◌, ◌≢◌, ℕ, ◌<◌, ◌+◌, List, [], ◌∷◌, ◌++◌, length, drop, Option, Some, None, Ok, refl, ap, ◌∙◌, sym, subst, arith, append_assoc, append-nil}
 use Rattle.std.proofs.lemmas.List.{drop-drop}
+use Rattle.sq_base.specs.Refusals.{refused}
 use Rattle.sq_base.specs.declared.place.Place.{Place}
 use Rattle.sq_base.specs.declared.refusal.Fault.{Fault}
 use Rattle.sq_base.specs.declared.refusal.Fault.TheVariants.{Refused}
 use Rattle.sq_syntax.specs.Items.{IsNext, fault_of, stop_at, token_kind}
-use Rattle.sq_syntax.specs.Tokens.{Reads, Stopped, begins_line, refusal, number_of, AnswersFrom}
+use Rattle.sq_syntax.specs.Tokens.{Reads, Stopped, begins_line, code_of, AnswersFrom}
 use Rattle.sq_syntax.specs.Tokens.Reads.{ended, no_item, bad_item, between, token}
 use Rattle.sq_syntax.specs.declared.item.ItemKind.{ItemKind}
 use Rattle.sq_syntax.specs.declared.item.Stop.{Stop}
@@ -34,15 +35,15 @@ some_bytes [] less none = absurd (omega arith)
 some_bytes (b ∷ bytes) less none = cc
 
 pub stops_no_item : (notes : Notes) (rest : List ℕ) (stop : Stop) (fault : Fault) → 0 < length rest → scan [] (begin (begins_line notes.place)) None rest ≡ None
-    → stop ≡ stop_at rest → fault ≡ Refused (refusal (number_of stop) notes.place) → Fails notes rest fault
+    → stop ≡ stop_at rest → fault ≡ Refused (refused (code_of stop) notes.place) → Fails notes rest fault
 stops_no_item notes rest stop fault some none is same =
-    subst (Fails notes rest) (sym (same ∙ ap (λ s. Refused (refusal (number_of s) notes.place)) is))
+    subst (Fails notes rest) (sym (same ∙ ap (λ s. Refused (refused (code_of s) notes.place)) is))
     (λ g place text holds.
     let stopped : Stopped = record { stop = stop_at rest; place = notes.place } in
     (notes.tokens ++ [], stopped, holds [] (Some stopped) (no_item notes.gap notes.place rest (some_bytes rest some) (none_next (begins_line notes.place) rest none)), refl))
 
 pub stops_bad_item : (notes : Notes) (kind : ItemKind) (bytes item rest : List ℕ) (stop : Stop) (fault : Fault) → IsNext (begins_line notes.place) bytes kind item rest
-    → fault_of kind item rest ≡ Some stop → fault ≡ Refused (refusal (number_of stop) notes.place) → Fails notes bytes fault
+    → fault_of kind item rest ≡ Some stop → fault ≡ Refused (refused (code_of stop) notes.place) → Fails notes bytes fault
 stops_bad_item notes kind bytes item rest stop fault next is same =
     subst (Fails notes bytes) (sym same)
     (λ g place text holds.

@@ -2,12 +2,14 @@
 use Rattle.std.specs.Prelude.{◌≡◌, ℕ, zero, suc, List, [], ◌∷◌, take, drop, length, Option, Some, None, Result, Ok, Err, if◌then◌else◌}
 use Rattle.std.specs.Str.{is_utf8}
 use Rattle.std.specs.Str.Lossy.{utf8_valid_len}
+use Rattle.sq_base.specs.Refusals.{refused}
+use Rattle.sq_base.specs.declared.code.Code.TheVariants as code
 use Rattle.sq_base.specs.declared.place.Place.{Place}
 use Rattle.sq_base.specs.declared.refusal.Refusal.{Refusal}
 use Rattle.sq_base.specs.declared.refusal.Fault.{Fault}
 use Rattle.sq_base.specs.declared.refusal.Fault.TheVariants.{Refused, Memory}
 use Rattle.sq_syntax.specs.Items.{fault_of, stop_at, token_kind}
-use Rattle.sq_syntax.specs.Tokens.{after, gap_after, begins_line, refusal, number_of, file_start, text_of, text_start, text_gap}
+use Rattle.sq_syntax.specs.Tokens.{after, gap_after, begins_line, code_of, file_start, text_of, text_start, text_gap}
 use Rattle.sq_syntax.specs.declared.item.Stop.{Stop}
 use Rattle.sq_syntax.specs.declared.token.TokenKind.{TokenKind}
 use Rattle.sq_syntax.specs.declared.token.Token.{Token}
@@ -32,12 +34,12 @@ read_past reader (Some of) g place item rest = begun (record { kind = of; bytes 
 
 -- an item is refused for this reason, or for none and the reading goes on
 abbrev pub read_unless : Option Stop → Place → Result (List Token) Refusal → Result (List Token) Refusal
-read_unless (Some stop) place others = Err (refusal (number_of stop) place)
+read_unless (Some stop) place others = Err (refused (code_of stop) place)
 read_unless None place others = others
 
 -- what was found at the front is the next item; where nothing was found none begins
 abbrev pub read_found : Reader → Option Found → Gap → Place → List ℕ → Result (List Token) Refusal
-read_found reader None g place bytes = Err (refusal (number_of (stop_at bytes)) place)
+read_found reader None g place bytes = Err (refused (code_of (stop_at bytes)) place)
 read_found reader (Some found) g place bytes =
     read_unless (fault_of found.kind (take found.size bytes) (drop found.size bytes)) place
     (read_past reader (token_kind found.kind (take found.size bytes)) g place (take found.size bytes) (drop found.size bytes))
@@ -53,7 +55,7 @@ read_within (suc n) g place (b ∷ bytes) =
 unfoldable pub token_list : ℕ → List ℕ → Result (List Token) Refusal
 token_list file bytes =
     if is_utf8 bytes then read_within (length (text_of bytes)) (text_gap bytes) (text_start file bytes) (text_of bytes)
-    else Err (refusal 3 (after (file_start file) (take (utf8_valid_len bytes) bytes)))
+    else Err (refused code.NotUtf8 (after (file_start file) (take (utf8_valid_len bytes) bytes)))
 
 -- a list or a refusal as an answer for which there was memory
 abbrev pub with_memory : Result (List Token) Refusal → Result (List Token) Fault

@@ -63,7 +63,7 @@ ghost use Rattle.sq_lexer.specs.declared.machine.State.TheVariants as at;
 use sq_syntax::{ByteClass, ItemKind, class_of};
 
 /// What has come of an item.
-#[derive(Clone, Copy, Debug, PartialEq, Eq)]
+#[derive(Clone, Copy, PartialEq, Eq)]
 pub(crate) enum State {
     Start,
     LineStart,
@@ -663,7 +663,7 @@ pub(crate) fn accepts(state: State, next: Option<ByteClass>) -> Option<ItemKind>
 }
 
 /// An item at the front of some bytes: what it is, and how many bytes it has.
-#[derive(Clone, Copy, Debug, PartialEq, Eq)]
+#[derive(Clone, Copy, PartialEq, Eq)]
 pub(crate) struct Found {
     pub kind: ItemKind,
     pub size: usize,

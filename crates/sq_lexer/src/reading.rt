@@ -20,21 +20,11 @@ ghost use Rattle.std.specs.Prelude.{
   None,
 };
 ghost use Rattle.std.specs.List.{starts_with};
+ghost use Rattle.sq_base.specs.Refusals.{refused};
+ghost use Rattle.sq_base.specs.declared.code.Code.TheVariants as code;
 ghost use Rattle.sq_base.specs.declared.refusal.Fault.TheVariants.{Refused};
 ghost use Rattle.sq_syntax.specs.Items.{fault_of, stop_at};
-ghost use Rattle.sq_syntax.specs.Tokens.{
-  AnswersFrom,
-  TokensOf,
-  after,
-  file_start,
-  has_mark,
-  number_of,
-  refusal,
-  begins_line,
-  text_gap,
-  text_of,
-  text_start,
-};
+ghost use Rattle.sq_syntax.specs.Tokens.{AnswersFrom, TokensOf, after, file_start, has_mark, code_of, begins_line, text_gap, text_of, text_start};
 ghost use Rattle.sq_lexer.specs.Machine.{scan, begin};
 ghost use Rattle.sq_lexer.specs.TokenList.{token_list, AnswersList};
 ghost use Rattle.sq_lexer.specs.Reading.{Advances, Fails, IsLoneOperator, noted};
@@ -43,7 +33,7 @@ use crate::item::{fault_of, stop_at, token_kind};
 use crate::machine::{Found, scan};
 use crate::place::{after, begins_line, file_start, gap_after};
 use crate::signs::lone_signs;
-use sq_base::{Fault, List, Name, Place, Refusal};
+use sq_base::{Code, Fault, List, Place, Refusal};
 use sq_syntax::{Gap, ItemKind, Stop, Token};
 use std::alloc::{AllocError, Global};
 use std::str::from_utf8;
@@ -56,25 +46,14 @@ pub(crate) struct Notes {
     pub gap: Gap,
 }
 
-fn number_of(stop: Stop) -> u8
-    ensures { result ≡ number_of stop }
+/// The kind of the refusal of what stops a reading.
+fn code_of(stop: Stop) -> Code
+    ensures { result ≡ code_of stop }
 {
     match stop {
-        Stop::Unterminated => 1,
-        Stop::BadByte => 2,
+        Stop::Unterminated => Code::Unterminated,
+        Stop::BadByte => Code::BadByte,
     }
-}
-
-/// A refusal that keeps no text.
-fn refusal(alloc: Global, number: u8, place: Place) -> Fault
-    ensures { result ≡ Refused (refusal number place) }
-{
-    Fault::Refused(Refusal {
-        number,
-        place,
-        first: Name::from_string(String::new(alloc)),
-        second: Name::from_string(String::new(alloc)),
-    })
 }
 
 impl Notes {
@@ -106,9 +85,9 @@ impl Notes {
 
     /// Why the reading stops here.
     fn stopped(&self, alloc: Global, stop: Stop) -> Fault
-        ensures { result ≡ Refused (refusal (number_of stop) self.now.place) }
+        ensures { result ≡ Refused (refused (code_of stop) self.now.place) }
     {
-        refusal(alloc, number_of(stop), self.place)
+        Fault::Refused(Refusal::at(alloc, code_of(stop), self.place))
     }
 
     /// Takes the item that was found in front of the rest of the text.
@@ -225,9 +204,9 @@ fn text_tokens(alloc: Global, file: u32, bytes: &[u8]) -> Result<List<Token>, Fa
 /// The refusal of a file that is no UTF-8, the longest part in front that is UTF-8 being given.
 fn ill_formed(alloc: Global, file: u32, front: &[u8]) -> Fault
     requires { length front.now ≤ 4194304 }
-    ensures { result ≡ Refused (refusal 3 (after (file_start file) front.now)) }
+    ensures { result ≡ Refused (refused code.NotUtf8 (after (file_start file) front.now)) }
 {
-    refusal(alloc, 3, after(file_start(file), front))
+    Fault::Refused(Refusal::at(alloc, Code::NotUtf8, after(file_start(file), front)))
 }
 
 /// The tokens of a file.

@@ -3,7 +3,7 @@ use Rattle.std.proofs.Common.{◌≡◌, Bool, true, false, cond, List, Option, 
 use Rattle.std.proofs.lemmas.Option.{same_Some}
 use Rattle.sq_catalog.specs.Answers.{and_then}
 use Rattle.sq_catalog.specs.Columns.{placed}
-use Rattle.sq_catalog.specs.declared.change.ChangeFault.{ChangeFault}
+use Rattle.sq_catalog.specs.declared.change.Cause.{Cause}
 
 -- both of the ways that a test can take
 pub by_test : {B : Type 0} (Q : B → Type 0) (b : Bool) (x y : B) → (b ≡ true → Q x) → (b ≡ false → Q y) → Q (cond b x y)
@@ -16,7 +16,7 @@ by_finding Q None y f first second = first refl
 by_finding Q (Some x) y f first second = second x refl
 
 -- what comes next
-pub by_next : {A B : Type 0} (P : B → Type 0) (r : Result A ChangeFault) (next : A → Result B ChangeFault) → ((x : A) → r ≡ Ok x → IfOk (next x) P) → IfOk (and_then r next) P
+pub by_next : {A B : Type 0} (P : B → Type 0) (r : Result A Cause) (next : A → Result B Cause) → ((x : A) → r ≡ Ok x → IfOk (next x) P) → IfOk (and_then r next) P
 by_next P (Ok x) next after = after x refl
 by_next P (Err fault) next after = tt
 

@@ -18,8 +18,8 @@ use Rattle.sq_catalog.specs.declared.table.Table.{Table}
 use Rattle.sq_catalog.specs.declared.change.Action.{Action}
 use Rattle.sq_catalog.specs.declared.change.Change.{Change}
 use Rattle.sq_catalog.specs.declared.change.Change.TheVariants.{CreateSchema, CreateTable, DropTable, AlterTable, RenameTable, SetTableSchema, CreateEnum, CreateDomain, AddValue, RenameValue, RenameType, SetTypeSchema, DropSchema, DropType, DropDomain}
-use Rattle.sq_catalog.specs.declared.change.ChangeFault.{ChangeFault}
-use Rattle.sq_catalog.specs.declared.change.ChangeFault.TheVariants.{Exists, Missing, InUse}
+use Rattle.sq_catalog.specs.declared.change.Cause.{Cause}
+use Rattle.sq_catalog.specs.declared.change.Cause.TheVariants.{Exists, Missing, InUse}
 use Rattle.sq_catalog.specs.declared.change.Keys.{Keys}
 use Rattle.sq_catalog.specs.declared.change.Target.{Target}
 use Rattle.sq_migrate.specs.Kept.{IsTable, IsCatalogue, HasTypes, HoldsTypes, are_apart, table_ids, type_ids}
@@ -65,7 +65,7 @@ is_catalogue c has held = record {
 }
 
 -- what is answered is a catalogue, where anything is
-abbrev Keeps : Result Contents ChangeFault → Type 0
+abbrev Keeps : Result Contents Cause → Type 0
 Keeps result = IfOk result HasTables
 
 -- the tables stay
@@ -202,7 +202,7 @@ domain_keeps c schema name base has =
     by_next HasTables (free_type c schema name) (λ free. Ok (with_domain c schema name base)) (λ free is. same_tables c (with_domain c schema name base) refl (omega arith)
     (domain_has c schema name base (ids_given c has) has.types) has)
 
-labelled_keeps : (c : Contents) (name : List ℕ) (change : List (List ℕ) → Result (List (List ℕ)) ChangeFault) (found : Option (ℕ × EnumType)) → HasTables c → Keeps (labelled c name change found)
+labelled_keeps : (c : Contents) (name : List ℕ) (change : List (List ℕ) → Result (List (List ℕ)) Cause) (found : Option (ℕ × EnumType)) → HasTables c → Keeps (labelled c name change found)
 labelled_keeps c name change None has = tt
 labelled_keeps c name change (Some found) has =
     by_next HasTables (change found.1.labels) (λ labels. Ok (with_labels c found.0 labels)) (λ labels done. same_tables c (with_labels c found.0 labels) refl (omega arith)
@@ -243,6 +243,6 @@ step_has c (DropDomain of cascade) has = found_keeps c of cascade (domain_id c o
 -- what a change whose types are held makes of a catalogue is one
 pub step_keeps : (c : Contents) (change : Change) → BringsHeld c change → IsCatalogue c → IfOk (step c change) IsCatalogue
 step_keeps c change brings is = both (step c change) (step_has c change (has_tables c is)) (step_holds c change brings is.types is.held) where
-  both : (result : Result Contents ChangeFault) → IfOk result HasTables → IfOk result HoldsTypes → IfOk result IsCatalogue
+  both : (result : Result Contents Cause) → IfOk result HasTables → IfOk result HoldsTypes → IfOk result IsCatalogue
   both (Ok new) has held = is_catalogue new has held
   both (Err fault) has held = tt

@@ -16,8 +16,8 @@ use Rattle.sq_catalog.specs.declared.table.Key.{Key}
 use Rattle.sq_catalog.specs.declared.table.Table.{Table}
 use Rattle.sq_catalog.specs.declared.change.Action.{Action}
 use Rattle.sq_catalog.specs.declared.change.Action.TheVariants.{AddColumn, DropColumn, RenameColumn, SetNotNull, DropNotNull, SetType, AddPrimaryKey, DropConstraint, RenameConstraint}
-use Rattle.sq_catalog.specs.declared.change.ChangeFault.{ChangeFault}
-use Rattle.sq_catalog.specs.declared.change.ChangeFault.TheVariants.{Exists, Missing, InPrimaryKey, TooManyColumns}
+use Rattle.sq_catalog.specs.declared.change.Cause.{Cause}
+use Rattle.sq_catalog.specs.declared.change.Cause.TheVariants.{Exists, Missing, InPrimaryKey, TooManyColumns}
 use Rattle.sq_catalog.specs.declared.change.Keys.{Keys}
 use Rattle.sq_catalog.specs.declared.change.Keys.TheVariants.{Nothing, One, Several}
 use Rattle.sq_catalog.specs.declared.change.NewKey.{NewKey}
@@ -108,7 +108,7 @@ place_within table name at found =
 places_within : (table : Table) (found : List ℕ) (names : List (List ℕ)) → AllByRecursion (λ place. place < length table.columns) found → IfOk (places_of table found names) (AllByRecursion (λ place. place < length table.columns))
 places_within table found [] all = all
 places_within table found (name ∷ names) all =
-    by_finding (λ (r : Result (List ℕ) ChangeFault). IfOk r (AllByRecursion (λ place. place < length table.columns))) (place_of_column table name) (Err (Missing name)) (λ at. places_of table (found ++ at ∷ []) names) (λ none. tt)
+    by_finding (λ (r : Result (List ℕ) Cause). IfOk r (AllByRecursion (λ place. place < length table.columns))) (place_of_column table name) (Err (Missing name)) (λ at. places_of table (found ++ at ∷ []) names) (λ none. tt)
     (λ at there. places_within table (found ++ at ∷ []) names (all_pushed (λ place. place < length table.columns) found at all (place_within table name at there)))
 
 -- the places of a new key
@@ -117,7 +117,7 @@ Fits table key = AllByRecursion (λ place. place < length table.columns) key.col
 
 new_key_fits : (table : Table) (new : NewKey) → IfOk (new_key table new) (Fits table)
 new_key_fits table new =
-    by_finding (λ (r : Result Key ChangeFault). IfOk r (Fits table)) table.key (and_then (places_of table [] new.columns) (λ places. Ok (record { name = key_name table.name new.name; columns = places }))) (λ key. Err (Exists primary_key))
+    by_finding (λ (r : Result Key Cause). IfOk r (Fits table)) table.key (and_then (places_of table [] new.columns) (λ places. Ok (record { name = key_name table.name new.name; columns = places }))) (λ key. Err (Exists primary_key))
     (λ none. by_next (Fits table) (places_of table [] new.columns) (λ places. Ok (record { name = key_name table.name new.name; columns = places }))
     (λ places found. IfOk-at_ok (AllByRecursion (λ place. place < length table.columns)) found (places_within table [] new.columns tt)))
     (λ key there. tt)
@@ -140,7 +140,7 @@ with_key_of_made table None apart few keyed fits = record { same = refl; apart =
 with_key_of_made table (Some key) apart few keyed fits = with_key_made table key apart few fits
 
 within_limit : (table within : Table) → limited table ≡ Ok within → length table.columns ≤ 1600
-within_limit table within = by_test (λ (r : Result Table ChangeFault). r ≡ Ok within → length table.columns ≤ 1600) (nat_lt 1600 (length table.columns)) (Err (TooManyColumns table.name)) (Ok table)
+within_limit table within = by_test (λ (r : Result Table Cause). r ≡ Ok within → length table.columns ≤ 1600) (nat_lt 1600 (length table.columns)) (Err (TooManyColumns table.name)) (Ok table)
     (λ over e. absurd (cc)) (λ is e. grind (arith, is))
 
 pub completed_made : (table : Table) (keys : Keys) → ApartByName table.columns → IsKeyOf table.columns table.key → IfOk (completed table keys) (IsMadeOf table)
@@ -153,7 +153,7 @@ completed_made table keys apart keyed =
 pub new_made : (table : Table) (keys : Keys) → IsKeyOf table.columns table.key → IfOk (new_table table keys) (IsMadeOf table)
 new_made table keys keyed = by_next (IsMadeOf table) (distinct table.columns) (λ done. completed table keys) (λ done is. completed_made table keys (apart_of_distinct table.columns (none is)) keyed) where
   none : {done : Unit {0}} → distinct table.columns ≡ Ok done → repeated_column table.columns ≡ None
-  none {done} is = by_finding (λ (r : Result (Unit {0}) ChangeFault). r ≡ Ok done → repeated_column table.columns ≡ None) (repeated_column table.columns) (Ok tt) (λ name. Err (Exists name))
+  none {done} is = by_finding (λ (r : Result (Unit {0}) Cause). r ≡ Ok done → repeated_column table.columns ≡ None) (repeated_column table.columns) (Ok tt) (λ name. Err (Exists name))
       (λ e i. e) (λ name e i. absurd (cc)) is
 
 -- a table whose columns are changed at a place, and keep their names
@@ -230,36 +230,36 @@ stripped_id ids table = below (length table.columns) table where
 -- one more column
 added_made : (table : Table) (column : Column) (if_not_exists : Bool) (keys : Keys) → IsTable table → IfOk (column_added table column if_not_exists keys) (IsMadeOf table)
 added_made table column if_not_exists keys is =
-    by_finding (λ (r : Result Table ChangeFault). IfOk r (IsMadeOf table)) (place_of_column table column.name) (completed (with_column table column) keys) (λ at. cond if_not_exists (Ok table) (Err (Exists column.name)))
+    by_finding (λ (r : Result Table Cause). IfOk r (IsMadeOf table)) (place_of_column table column.name) (completed (with_column table column) keys) (λ at. cond if_not_exists (Ok table) (Err (Exists column.name)))
     (λ none. IfOk-weaker (completed (with_column table column) keys) (IsMadeOf (with_column table column)) (IsMadeOf table) (λ new made. record { same = made.same; apart = made.apart; few = made.few; keyed = made.keyed })
     (completed_made (with_column table column) keys (apart_pushed (λ (other : Column). other.name) table.columns column (free table column.name none) (apart_of_distinct table.columns is.distinct))
     (more_columns table.columns (table.columns ++ column ∷ []) table.key (omega (arith, length-append table.columns (column ∷ []))) is.keyed)))
-    (λ at there. by_test (λ (r : Result Table ChangeFault). IfOk r (IsMadeOf table)) if_not_exists (Ok table) (Err (Exists column.name)) (λ yes. unchanged table is) (λ fails. tt))
+    (λ at there. by_test (λ (r : Result Table Cause). IfOk r (IsMadeOf table)) if_not_exists (Ok table) (Err (Exists column.name)) (λ yes. unchanged table is) (λ fails. tt))
 
 dropped_made : (table : Table) (name : List ℕ) (if_exists : Bool) → IsTable table → IfOk (column_dropped table name if_exists) (IsMadeOf table)
 dropped_made table name if_exists is =
-    by_finding (λ (r : Result Table ChangeFault). IfOk r (IsMadeOf table)) (place_of_column table name) (cond if_exists (Ok table) (Err (Missing name))) (λ at. Ok (without_column table at))
-    (λ none. by_test (λ (r : Result Table ChangeFault). IfOk r (IsMadeOf table)) if_exists (Ok table) (Err (Missing name)) (λ passes. unchanged table is) (λ fails. tt))
+    by_finding (λ (r : Result Table Cause). IfOk r (IsMadeOf table)) (place_of_column table name) (cond if_exists (Ok table) (Err (Missing name))) (λ at. Ok (without_column table at))
+    (λ none. by_test (λ (r : Result Table Cause). IfOk r (IsMadeOf table)) if_exists (Ok table) (Err (Missing name)) (λ passes. unchanged table is) (λ fails. tt))
     (λ at there. without_made table table at (unchanged table is))
 
 renamed_made : (table : Table) (from to : List ℕ) → IsTable table → IfOk (column_renamed table from to) (IsMadeOf table)
 renamed_made table from to is =
-    by_finding (λ (r : Result Table ChangeFault). IfOk r (IsMadeOf table)) (place_of_column table from) (Err (Missing from)) (λ at. elim (place_of_column table to) [ None ↦ Ok (with_column_at (named to) table at) | Some taken ↦ Err (Exists to) ])
+    by_finding (λ (r : Result Table Cause). IfOk r (IsMadeOf table)) (place_of_column table from) (Err (Missing from)) (λ at. elim (place_of_column table to) [ None ↦ Ok (with_column_at (named to) table at) | Some taken ↦ Err (Exists to) ])
     (λ none. tt)
-    (λ at there. by_finding (λ (r : Result Table ChangeFault). IfOk r (IsMadeOf table)) (place_of_column table to) (Ok (with_column_at (named to) table at)) (λ taken. Err (Exists to))
+    (λ at there. by_finding (λ (r : Result Table Cause). IfOk r (IsMadeOf table)) (place_of_column table to) (Ok (with_column_at (named to) table at)) (λ taken. Err (Exists to))
     (λ none. named_at table at to none is) (λ taken e. tt))
 
 -- a column that is there is changed, and keeps its name
 changed_made : (f : Column → Column) (table : Table) (name : List ℕ) → ((column : Column) → (f column).name ≡ column.name) → IsTable table
     → IfOk (elim (place_of_column table name) [ None ↦ Err (Missing name) | Some at ↦ Ok (with_column_at f table at) ]) (IsMadeOf table)
 changed_made f table name keeps is =
-    by_finding (λ (r : Result Table ChangeFault). IfOk r (IsMadeOf table)) (place_of_column table name) (Err (Missing name)) (λ at. Ok (with_column_at f table at)) (λ none. tt) (λ at there. kept_at f table at keeps is)
+    by_finding (λ (r : Result Table Cause). IfOk r (IsMadeOf table)) (place_of_column table name) (Err (Missing name)) (λ at. Ok (with_column_at f table at)) (λ none. tt) (λ at there. kept_at f table at keeps is)
 
 unmarked_made : (table : Table) (name : List ℕ) → IsTable table → IfOk (column_unmarked table name) (IsMadeOf table)
 unmarked_made table name is =
-    by_finding (λ (r : Result Table ChangeFault). IfOk r (IsMadeOf table)) (place_of_column table name) (Err (Missing name)) (λ at. cond (in_key table at) (Err (InPrimaryKey name)) (Ok (with_column_at (marked false) table at)))
+    by_finding (λ (r : Result Table Cause). IfOk r (IsMadeOf table)) (place_of_column table name) (Err (Missing name)) (λ at. cond (in_key table at) (Err (InPrimaryKey name)) (Ok (with_column_at (marked false) table at)))
     (λ none. tt)
-    (λ at there. by_test (λ (r : Result Table ChangeFault). IfOk r (IsMadeOf table)) (in_key table at) (Err (InPrimaryKey name)) (Ok (with_column_at (marked false) table at))
+    (λ at there. by_test (λ (r : Result Table Cause). IfOk r (IsMadeOf table)) (in_key table at) (Err (InPrimaryKey name)) (Ok (with_column_at (marked false) table at))
     (λ held. tt) (λ loose. kept_at (marked false) table at (λ column. refl) is))
 
 keyed_made : (table : Table) (key : NewKey) → IsTable table → IfOk (and_then (new_key table key) (λ made. Ok (with_key table made))) (IsMadeOf table)

@@ -19,8 +19,8 @@ use Rattle.sq_catalog.specs.declared.table.Table.{Table}
 use Rattle.sq_catalog.specs.declared.change.Action.{Action}
 use Rattle.sq_catalog.specs.declared.change.Change.{Change}
 use Rattle.sq_catalog.specs.declared.change.Change.TheVariants.{CreateSchema, CreateTable, DropTable, AlterTable, RenameTable, SetTableSchema, CreateEnum, CreateDomain, AddValue, RenameValue, RenameType, SetTypeSchema, DropSchema, DropType, DropDomain}
-use Rattle.sq_catalog.specs.declared.change.ChangeFault.{ChangeFault}
-use Rattle.sq_catalog.specs.declared.change.ChangeFault.TheVariants.{Exists, Missing, InUse}
+use Rattle.sq_catalog.specs.declared.change.Cause.{Cause}
+use Rattle.sq_catalog.specs.declared.change.Cause.TheVariants.{Exists, Missing, InUse}
 use Rattle.sq_catalog.specs.declared.change.Keys.{Keys}
 use Rattle.sq_catalog.specs.declared.change.Target.{Target}
 use Rattle.sq_migrate.specs.Kept.{HasTypes, enum_ids, domain_ids, type_ids, IsHeld, HasHeldTypes, IsAfterBase, are_in_order, HoldsTypes}
@@ -61,7 +61,7 @@ held_again c new within columns bases later ordered = record {
 }
 
 -- what is answered holds its types, where anything is answered
-abbrev Keeps : Result Contents ChangeFault → Type 0
+abbrev Keeps : Result Contents Cause → Type 0
 Keeps result = IfOk result HoldsTypes
 
 absent_holds : (c : Contents) (target : Target) → HoldsTypes c → Keeps (absent c target)
@@ -174,7 +174,7 @@ domains_hold g c at same all =
       after of later =
           subst (λ id. IsBelow id (id_of (g of).base.scalar)) (sym (same of).0) (subst (λ (base : PgType). IsBelow of.id (id_of base.scalar)) (sym (same of).1) later)
 
-labelled_holds : (c : Contents) (name : List ℕ) (change : List (List ℕ) → Result (List (List ℕ)) ChangeFault) (found : Option (ℕ × EnumType)) → HoldsTypes c → Keeps (labelled c name change found)
+labelled_holds : (c : Contents) (name : List ℕ) (change : List (List ℕ) → Result (List (List ℕ)) Cause) (found : Option (ℕ × EnumType)) → HoldsTypes c → Keeps (labelled c name change found)
 labelled_holds c name change None all = tt
 labelled_holds c name change (Some found) all =
     by_next HoldsTypes (change found.1.labels) (λ labels. Ok (with_labels c found.0 labels)) (λ labels done. enums_hold (λ (of : EnumType). record of { labels = labels }) c found.0 (λ of. refl) all)

@@ -34,7 +34,9 @@ use Rattle.sq_catalog.specs.declared.change.NewKey.{NewKey}
 use Rattle.sq_catalog.specs.declared.change.Target.{Target}
 use Rattle.sq_catalog.specs.declared.table.Column.{Column}
 use Rattle.sq_migrate.specs.declared.types.Typed.{Typed}
-use Rattle.sq_migrate.specs.Refused.{refused, and_then}
+use Rattle.sq_base.specs.Refusals.{refused_naming}
+use Rattle.sq_base.specs.declared.code.Code.TheVariants.{UnknownSchema}
+use Rattle.sq_migrate.specs.Refused.{and_then}
 use Rattle.sq_migrate.specs.Types.{known_schema, place_of, type_of}
 use Rattle.sq_migrate.specs.Columns.{text, table_key, column_keys, keys, table_keys, column_of_type, column_of, columns_of}
 use Rattle.sq_migrate.specs.Labels.{label}
@@ -87,7 +89,7 @@ module _ (c : Contents) (have : HasNames c) where
   -- a schema that is there has a name
   known : (place : Place) (schema : List ℕ) (done : Unit {0}) → known_schema c place schema ≡ Ok done → IsName schema
   known place schema done =
-      by_test (λ (r : Result (Unit {0}) Refusal). r ≡ Ok done → IsName schema) (has_schema c schema) (Ok tt) (Err (refused 16 place schema))
+      by_test (λ (r : Result (Unit {0}) Refusal). r ≡ Ok done → IsName schema) (has_schema c schema) (Ok tt) (Err (refused_naming UnknownSchema place schema))
       (λ there e. one_of c.schemas schema have.schemas there) (λ missing e. absurd (cc))
 
   within_brings : (x : QualifiedName) (next : Result Change Refusal) → (IsName (schema_of x) → Brings next) → Brings (within_schema c x next)

@@ -17,8 +17,8 @@ use Rattle.sq_catalog.specs.declared.table.Table.{Table}
 use Rattle.sq_catalog.specs.declared.change.Action.{Action}
 use Rattle.sq_catalog.specs.declared.change.Change.{Change}
 use Rattle.sq_catalog.specs.declared.change.Change.TheVariants.{CreateSchema, CreateTable, DropTable, AlterTable, RenameTable, SetTableSchema, CreateEnum, CreateDomain, AddValue, RenameValue, RenameType, SetTypeSchema, DropSchema, DropType, DropDomain}
-use Rattle.sq_catalog.specs.declared.change.ChangeFault.{ChangeFault}
-use Rattle.sq_catalog.specs.declared.change.ChangeFault.TheVariants.{Exists, Missing, InUse}
+use Rattle.sq_catalog.specs.declared.change.Cause.{Cause}
+use Rattle.sq_catalog.specs.declared.change.Cause.TheVariants.{Exists, Missing, InUse}
 use Rattle.sq_catalog.specs.declared.change.Keys.{Keys}
 use Rattle.sq_catalog.specs.declared.change.Target.{Target}
 use Rattle.sq_migrate.specs.Named.{IsName, IsNamed, HasName, IsNamedTable, IsNamedEnum, IsNamedDomain, HasNames}
@@ -40,7 +40,7 @@ BringsNames (SetTypeSchema schema name to) = IsName to
 BringsNames other = Unit {0}
 
 -- what is answered has names, where anything is answered
-abbrev Keeps : Result Contents ChangeFault → Type 0
+abbrev Keeps : Result Contents Cause → Type 0
 Keeps result = IfOk result HasNames
 
 absent_keeps : (c : Contents) (target : Target) → HasNames c → Keeps (absent c target)
@@ -134,7 +134,7 @@ domains_have g c at keeps have = record {
   domains = all_changed IsNamedDomain g c.domains at (λ of there. keeps of) have.domains;
 }
 
-labelled_keeps : (c : Contents) (name : List ℕ) (change : List (List ℕ) → Result (List (List ℕ)) ChangeFault) (found : Option (ℕ × EnumType)) → HasNames c → Keeps (labelled c name change found)
+labelled_keeps : (c : Contents) (name : List ℕ) (change : List (List ℕ) → Result (List (List ℕ)) Cause) (found : Option (ℕ × EnumType)) → HasNames c → Keeps (labelled c name change found)
 labelled_keeps c name change None have = tt
 labelled_keeps c name change (Some found) have =
     by_next HasNames (change found.1.labels) (λ labels. Ok (with_labels c found.0 labels)) (λ labels done. enums_have (λ (of : EnumType). record of { labels = labels }) c found.0 (λ of was. was) have)

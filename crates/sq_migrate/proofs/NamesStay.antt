@@ -12,8 +12,8 @@ use Rattle.sq_catalog.specs.declared.table.Key.{Key}
 use Rattle.sq_catalog.specs.declared.table.Table.{Table}
 use Rattle.sq_catalog.specs.declared.change.Action.{Action}
 use Rattle.sq_catalog.specs.declared.change.Action.TheVariants.{AddColumn, DropColumn, RenameColumn, SetNotNull, DropNotNull, SetType, AddPrimaryKey, DropConstraint, RenameConstraint}
-use Rattle.sq_catalog.specs.declared.change.ChangeFault.{ChangeFault}
-use Rattle.sq_catalog.specs.declared.change.ChangeFault.TheVariants.{Exists, Missing, InPrimaryKey}
+use Rattle.sq_catalog.specs.declared.change.Cause.{Cause}
+use Rattle.sq_catalog.specs.declared.change.Cause.TheVariants.{Exists, Missing, InPrimaryKey}
 use Rattle.sq_catalog.specs.declared.change.Keys.{Keys}
 use Rattle.sq_migrate.specs.Named.{IsName, HasName, IsNamedTable}
 use Rattle.sq_migrate.proofs.Answered.{by_test, by_finding, by_next}
@@ -26,7 +26,7 @@ Brings (RenameColumn from to) = IsName to
 Brings other = Unit {0}
 
 -- the answer is a table with names, where it is any
-abbrev Gives : Result Table ChangeFault → Type 0
+abbrev Gives : Result Table Cause → Type 0
 Gives result = IfOk result IsNamedTable
 
 marked_named : (columns : List Column) (places : List ℕ) → AllByRecursion HasName columns → AllByRecursion HasName (all_marked columns places)

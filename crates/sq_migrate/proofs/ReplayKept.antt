@@ -15,7 +15,7 @@ use Rattle.sq_syntax.specs.declared.ddl.TableChange.TheVariants as table_change
 use Rattle.sq_catalog.specs.Contents.{Contents}
 use Rattle.sq_catalog.specs.Catalogue.{step}
 use Rattle.sq_catalog.specs.declared.change.Change.{Change}
-use Rattle.sq_catalog.specs.declared.change.ChangeFault.{ChangeFault}
+use Rattle.sq_catalog.specs.declared.change.Cause.{Cause}
 use Rattle.sq_migrate.specs.Asked.{schema_asked, table_asked, enum_asked, domain_asked, schema_drop_asked, drop_asked, action_asked, type_change_asked}
 use Rattle.sq_migrate.specs.Kept.{IsCatalogue}
 use Rattle.sq_migrate.specs.Replay.{Replayed, start, stepped, done, done_if_any, schemas_dropped, names_dropped, acted, table_change_asked, table_changed, after, after_all, replayed}
@@ -27,7 +27,7 @@ use Rattle.sq_migrate.proofs.TypesAsked.{BringsIfAny, schema_brings, table_bring
 abbrev Keeps : Replayed → Type 0
 Keeps s = IsCatalogue s.catalogue
 
-stepped_keeps : (place : Place) (s : Replayed) (result : Result Contents ChangeFault) → IfOk result IsCatalogue → Keeps s → Keeps (stepped place s result)
+stepped_keeps : (place : Place) (s : Replayed) (result : Result Contents Cause) → IfOk result IsCatalogue → Keeps s → Keeps (stepped place s result)
 stepped_keeps place s (Ok changed) made is = made
 stepped_keeps place s (Err fault) made is = is
 

@@ -14,8 +14,8 @@ use Rattle.sq_catalog.specs.declared.table.Key.{Key}
 use Rattle.sq_catalog.specs.declared.table.Table.{Table}
 use Rattle.sq_catalog.specs.declared.change.Action.{Action}
 use Rattle.sq_catalog.specs.declared.change.Action.TheVariants.{AddColumn, DropColumn, RenameColumn, SetNotNull, DropNotNull, SetType, AddPrimaryKey, DropConstraint, RenameConstraint}
-use Rattle.sq_catalog.specs.declared.change.ChangeFault.{ChangeFault}
-use Rattle.sq_catalog.specs.declared.change.ChangeFault.TheVariants.{Exists, Missing, InPrimaryKey}
+use Rattle.sq_catalog.specs.declared.change.Cause.{Cause}
+use Rattle.sq_catalog.specs.declared.change.Cause.TheVariants.{Exists, Missing, InPrimaryKey}
 use Rattle.sq_catalog.specs.declared.change.Keys.{Keys}
 use Rattle.sq_migrate.proofs.Answered.{by_test, by_finding, by_next}
 use Rattle.sq_migrate.proofs.Apart.{all_pushed, all_removed, all_changed}
@@ -36,7 +36,7 @@ module _ (P : PgType → Type 0) where
   Brings other = Unit {0}
 
   -- the answer is a table of such types, where it is any
-  abbrev Gives : Result Table ChangeFault → Type 0
+  abbrev Gives : Result Table Cause → Type 0
   Gives result = IfOk result Has
 
   marked_has : (columns : List Column) (places : List ℕ) → AllByRecursion Is columns → AllByRecursion Is (all_marked columns places)

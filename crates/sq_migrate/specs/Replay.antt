@@ -1,5 +1,7 @@
 -- The replay of schema statements.
 use Rattle.std.specs.Prelude.{List, [], ◌∷◌, ◌++◌, Option, Some, None, Result, Ok, Err}
+use Rattle.sq_base.specs.Refusals.{refused_naming}
+use Rattle.sq_base.specs.declared.code.Code.TheVariants as code
 use Rattle.sq_base.specs.declared.place.Place.{Place}
 use Rattle.sq_base.specs.declared.refusal.Refusal.{Refusal}
 use Rattle.sq_syntax.specs.declared.name.Identifier.{Identifier}
@@ -16,9 +18,8 @@ use Rattle.sq_catalog.specs.Contents.{Contents}
 use Rattle.sq_catalog.specs.Catalogue.{step}
 use Rattle.sq_catalog.specs.declared.change.Action.TheVariants as action
 use Rattle.sq_catalog.specs.declared.change.Change.{Change}
-use Rattle.sq_catalog.specs.declared.change.ChangeFault.{ChangeFault}
-use Rattle.sq_catalog.specs.declared.change.ChangeFault.TheVariants.{Exists, Missing, InUse, InPrimaryKey, TooManyColumns, Memory}
-use Rattle.sq_migrate.specs.Refused.{refused}
+use Rattle.sq_catalog.specs.declared.change.Cause.{Cause}
+use Rattle.sq_catalog.specs.declared.change.Cause.TheVariants.{Exists, Missing, InUse, InPrimaryKey, TooManyColumns}
 use Rattle.sq_migrate.specs.Columns.{text}
 use Rattle.sq_migrate.specs.Asked.{schema_asked, table_asked, enum_asked, domain_asked, schema_drop_asked, drop_asked, acting, some, action_asked, rename_asked, move_asked, type_change_asked}
 
@@ -40,18 +41,17 @@ abbrev pub and_refused : Replayed → Refusal → Replayed
 and_refused s refusal = record s { refusals = s.refusals ++ refusal ∷ [] }
 
 -- the refusal of a change, at the place of its statement
-abbrev pub refusal_of : Place → ChangeFault → Refusal
-refusal_of place (Exists name) = refused 80 place name
-refusal_of place (Missing name) = refused 81 place name
-refusal_of place (InUse name) = refused 82 place name
-refusal_of place (InPrimaryKey name) = refused 83 place name
-refusal_of place (TooManyColumns name) = refused 84 place name
-refusal_of place Memory = refused 0 place []
+abbrev pub refusal_of : Place → Cause → Refusal
+refusal_of place (Exists name) = refused_naming code.Exists place name
+refusal_of place (Missing name) = refused_naming code.Missing place name
+refusal_of place (InUse name) = refused_naming code.InUse place name
+refusal_of place (InPrimaryKey name) = refused_naming code.InPrimaryKey place name
+refusal_of place (TooManyColumns name) = refused_naming code.TooManyColumns place name
 
 -- a change is made, or left out with its refusal
-abbrev pub stepped : Place → Replayed → Result Contents ChangeFault → Replayed
+abbrev pub stepped : Place → Replayed → Result Contents Cause → Replayed
 stepped place s (Ok changed) = record s { catalogue = changed }
-stepped place s (Err fault) = and_refused s (refusal_of place fault)
+stepped place s (Err cause) = and_refused s (refusal_of place cause)
 
 -- what is asked for is done, or left out with its refusal
 abbrev pub done : Place → Replayed → Result Change Refusal → Replayed

@@ -3,6 +3,8 @@ use Rattle.std.specs.Prelude.{ℕ, ◌&&◌, ◌||◌, Bool, true, false, if◌t
 use Rattle.std.specs.List.{list_any}
 use Rattle.std.specs.Option.{option_or}
 use Rattle.std.specs.Str.{bytes_eq}
+use Rattle.sq_base.specs.Refusals.{refused_naming}
+use Rattle.sq_base.specs.declared.code.Code.TheVariants.{UnknownType, UnknownSchema}
 use Rattle.sq_base.specs.declared.place.Place.{Place}
 use Rattle.sq_base.specs.declared.refusal.Refusal.{Refusal}
 use Rattle.sq_base.specs.declared.types.PgType.{PgType}
@@ -17,7 +19,7 @@ use Rattle.sq_syntax.specs.declared.name.TypeWord.TheVariants as word
 use Rattle.sq_catalog.specs.Contents.{Contents}
 use Rattle.sq_catalog.specs.Catalogue.{public, has_schema}
 use Rattle.sq_catalog.specs.UserTypes.{type_named}
-use Rattle.sq_migrate.specs.Refused.{refused, and_then}
+use Rattle.sq_migrate.specs.Refused.{and_then}
 use Rattle.sq_migrate.specs.declared.types.Typed.{Typed}
 
 -- whether a name is one of these words
@@ -97,7 +99,7 @@ is_char x = x.is_quoted && bytes_eq x.name (codes "char")
 
 -- no type of that name
 abbrev pub unknown : {A : Type 0} → Place → Identifier → Result A Refusal
-unknown place x = Err (refused 15 place x.name)
+unknown place x = Err (refused_naming UnknownType place x.name)
 
 -- a serial spelling is a type in a column alone
 abbrev pub serial_type : Bool → Place → Identifier → Scalar → Result Typed Refusal
@@ -110,7 +112,7 @@ found_type place x (Some of) = Ok (record { of = of; is_serial = false })
 
 -- a schema that is there
 abbrev pub known_schema : Contents → Place → List ℕ → Result (Unit {0}) Refusal
-known_schema c place schema = if has_schema c schema then Ok tt else Err (refused 16 place schema)
+known_schema c place schema = if has_schema c schema then Ok tt else Err (refused_naming UnknownSchema place schema)
 
 -- the enumeration or domain of this name in a schema
 abbrev pub type_in : Contents → Place → List ℕ → Identifier → Result Typed Refusal

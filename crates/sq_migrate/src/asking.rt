@@ -2,7 +2,7 @@
 
 ghost use Rattle.std.specs.Prelude.{◌≡◌, IfOk};
 ghost use Rattle.sq_migrate.specs.Asked as spec;
-ghost use Rattle.sq_migrate.specs.Refused.{Gives};
+ghost use Rattle.sq_base.specs.Answers.{Gives};
 ghost use Rattle.sq_migrate.specs.Types as types;
 
 use crate::columns::{columns_of, keys, table_keys, text};

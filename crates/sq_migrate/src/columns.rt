@@ -3,7 +3,7 @@
 ghost use Rattle.std.specs.Prelude.{◌≡◌, ◌++◌, [], IfOk, map};
 ghost use Rattle.sq_migrate.specs.Columns as spec;
 ghost use Rattle.sq_migrate.specs.Columns.{and_key};
-ghost use Rattle.sq_migrate.specs.Refused.{Gives};
+ghost use Rattle.sq_base.specs.Answers.{Gives};
 
 use crate::types::{Typed, type_of};
 use sq_base::{Fault, List, Name};

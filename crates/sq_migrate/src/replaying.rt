@@ -1,10 +1,10 @@
 //! The replay of schema statements.
 
-ghost use Rattle.std.specs.Prelude.{◌≡◌, ◌≢◌, IfOk, Ok, Option, Result};
+ghost use Rattle.std.specs.Prelude.{◌≡◌, IfOk, Ok, Option, Result};
 ghost use Rattle.sq_base.specs.declared.refusal.Refusal.{Refusal as Refused};
 ghost use Rattle.sq_catalog.specs.declared.change.Change.{Change as Asked};
-ghost use Rattle.sq_catalog.specs.declared.change.ChangeFault.TheVariants.{Memory};
-ghost use Rattle.sq_migrate.specs.Refused.{Gives, Lists};
+ghost use Rattle.sq_base.specs.Answers.{Gives};
+ghost use Rattle.sq_migrate.specs.Refused.{Lists};
 ghost use Rattle.sq_migrate.specs.Replay as spec;
 ghost use Rattle.sq_migrate.specs.Replay.{state};
 
@@ -13,25 +13,23 @@ use crate::asking::{
 };
 use crate::columns::text;
 use crate::tables::{acting, action_asked, move_asked, rename_asked, type_change_asked};
-use crate::types::refused;
-use sq_base::{Fault, List, Place, Refusal};
-use sq_catalog::{Action, Catalogue, Change, ChangeFault};
+use sq_base::{Code, Fault, List, Place, Refusal};
+use sq_catalog::{Action, Catalogue, Cause, Change, ChangeFault};
 use sq_syntax::{AlterTable, Ddl, DropNamed, DropSchema, TableAction, TableChange};
 use std::alloc::{AllocError, Global};
 
 // The refusal of a change, at the place of its statement.
-fn refusal_of(alloc: Global, place: Place, fault: ChangeFault) -> Result<Refusal, AllocError>
-    ensures told { IfOk result (λ refusal. refusal ≡ spec.refusal_of place fault) }
-    ensures refused { IfOk result (λ refusal. fault ≢ Memory) }
+fn refusal_of(alloc: Global, place: Place, cause: Cause) -> Result<Refusal, AllocError>
+    ensures { IfOk result (λ refusal. refusal ≡ spec.refusal_of place cause) }
 {
-    match fault {
-        ChangeFault::Exists(name) => refused(alloc, 80, place, name.as_str()),
-        ChangeFault::Missing(name) => refused(alloc, 81, place, name.as_str()),
-        ChangeFault::InUse(name) => refused(alloc, 82, place, name.as_str()),
-        ChangeFault::InPrimaryKey(name) => refused(alloc, 83, place, name.as_str()),
-        ChangeFault::TooManyColumns(name) => refused(alloc, 84, place, name.as_str()),
-        ChangeFault::Memory => Err(AllocError),
-    }
+    let (code, name) = match cause {
+        Cause::Exists(name) => (Code::Exists, name),
+        Cause::Missing(name) => (Code::Missing, name),
+        Cause::InUse(name) => (Code::InUse, name),
+        Cause::InPrimaryKey(name) => (Code::InPrimaryKey, name),
+        Cause::TooManyColumns(name) => (Code::TooManyColumns, name),
+    };
+    Refusal::naming(alloc, code, place, name.as_str())
 }
 
 // Makes a change, or lists its refusal.
@@ -46,10 +44,11 @@ fn make(
 {
     match catalogue.apply(change) {
         Ok(()) => Ok(()),
-        Err(fault) => {
-            let refusal = refusal_of(alloc, place, fault)?;
+        Err(ChangeFault::Refused(cause)) => {
+            let refusal = refusal_of(alloc, place, cause)?;
             refusals.push(refusal)
         }
+        Err(ChangeFault::Memory) => Err(AllocError),
     }
 }
 

@@ -2,7 +2,7 @@
 
 ghost use Rattle.std.specs.Prelude.{◌≡◌, IfOk};
 ghost use Rattle.sq_migrate.specs.Asked as spec;
-ghost use Rattle.sq_migrate.specs.Refused.{Gives};
+ghost use Rattle.sq_base.specs.Answers.{Gives};
 
 use crate::asking::{check_home, last_of, schema_of, target};
 use crate::columns::{column_keys, column_of, keys, table_key, text};

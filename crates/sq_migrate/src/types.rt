@@ -1,32 +1,22 @@
 //! The types that statements name.
 
-ghost use Rattle.std.specs.Prelude.{◌≡◌, IfOk};
-ghost use Rattle.sq_migrate.specs.Refused.{Gives, Tells, refused};
+ghost use Rattle.std.specs.Prelude.{◌≡◌};
+ghost use Rattle.sq_base.specs.Answers.{Gives, IsFaultOf};
+ghost use Rattle.sq_base.specs.Refusals.{refused_naming};
+ghost use Rattle.sq_base.specs.declared.code.Code.TheVariants.{UnknownType};
 ghost use Rattle.sq_migrate.specs.Types as spec;
 
 use crate::names::{is_one, scalar_named, serial_named};
-use sq_base::{Fault, Name, PgType, Place, Refusal, Scalar};
+use sq_base::{Code, Fault, PgType, Place, Refusal, Scalar};
 use sq_catalog::Catalogue;
 use sq_syntax::{Identifier, QualifiedName, TimeZone, TypeName, TypeWord};
-use std::alloc::{AllocError, Global};
+use std::alloc::Global;
 
 /// A type, and whether a sequence fills the column that has it.
 #[derive(Clone, Copy, Debug, PartialEq, Eq)]
 pub struct Typed {
     pub of: PgType,
     pub is_serial: bool,
-}
-
-/// A refusal that keeps one text.
-pub fn refused(alloc: Global, number: u8, place: Place, text: &str) -> Result<Refusal, AllocError>
-    ensures { IfOk result (λ refusal. refusal ≡ refused number place text.now) }
-{
-    Ok(Refusal {
-        number,
-        place,
-        first: Name::new(alloc, text)?,
-        second: Name::new(alloc, "")?,
-    })
 }
 
 fn scalar(is_serial: bool, of: Scalar) -> Typed
@@ -48,9 +38,9 @@ fn is_char(x: &Identifier) -> bool
 }
 
 fn unknown(alloc: Global, place: Place, x: &Identifier) -> Fault
-    ensures { Tells (refused 15 place x.now.name) result }
+    ensures { IsFaultOf (refused_naming UnknownType place x.now.name) result }
 {
-    match refused(alloc, 15, place, x.name.as_str()) {
+    match Refusal::naming(alloc, Code::UnknownType, place, x.name.as_str()) {
         Ok(refusal) => Fault::Refused(refusal),
         Err(_) => Fault::Memory,
     }
@@ -84,7 +74,7 @@ pub fn known_schema(
     if catalogue.has_schema(schema) {
         return Ok(());
     }
-    Err(Fault::Refused(refused(alloc, 16, place, schema)?))
+    Err(Fault::Refused(Refusal::naming(alloc, Code::UnknownSchema, place, schema)?))
 }
 
 fn type_in(

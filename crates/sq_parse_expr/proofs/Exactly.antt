@@ -63,7 +63,7 @@ tall height r x y one same h = omega (arith, ap height one, same, h, min-le_left
 
 pub unprepared : {A : Type 0} (Is : List Token → A → Type 0) (height : A → ℕ) (tokens : List Token) (fault : Fault) → Prepares tokens (Err fault) → Answers Is height tokens (Err fault)
 unprepared Is height tokens Fault.Memory h = h
-unprepared Is height tokens (Fault.Refused r) h = (Refuses.exceeds r.number h.0, h.1)
+unprepared Is height tokens (Fault.Refused r) h = (Refuses.exceeds r.code h.0, h.1)
 
 differ : Syntax ≢ Memory
 differ h = cc

@@ -10,14 +10,14 @@ ghost use Rattle.sq_parse_expr.specs.Depth.{expressions, queries};
 ghost use Rattle.sq_parse_expr.specs.Nests.{Nests};
 ghost use Rattle.sq_lexemes.specs.Reads.{Reads};
 
-use crate::grammar::{Grammar, Tree, Wanted, boxed_node};
+use crate::grammar::{Grammar, Tree, Wanted};
 use sq_base::List;
 use sq_lexemes::cursor::Cursor;
 use sq_lexemes::error::ParseError;
 use sq_lexemes::lists::list_with_first;
 use sq_lexemes::names::call_name;
 use sq_lexemes::words::is_aggregate;
-use sq_parts::{HeldArguments, HeldExpression, call};
+use sq_parts::{HeldArguments, HeldExpression, nodes};
 use sq_syntax::{Arguments, Direction, Expression, Node, Nulls, Reading, Sort, Symbol};
 use std::alloc::Global;
 
@@ -164,7 +164,7 @@ impl<F: Fn(Global, &mut Cursor<'_>, usize, Wanted) -> Result<Tree, ParseError>> 
         if asks && !is_aggregate(name.name.as_bytes()) {
             return Err(ParseError::Syntax);
         }
-        let form = call(name, arguments, filter);
-        Ok(HeldExpression::new(boxed_node(self.alloc, tokens, &begun, begun.here(), form)?))
+        let mark = tokens.node(&begun, begun.here(), ());
+        Ok(nodes::call(self.alloc, mark, name, arguments, filter)?)
     }
 }

@@ -8,16 +8,13 @@ ghost use Rattle.sq_grammar.specs.Reading.{choose};
 ghost use Rattle.sq_parse_expr.specs.Levels as ahead;
 ghost use Rattle.sq_lexemes.specs.Reads.{Reads};
 
-use crate::grammar::boxed_node;
 use sq_lexemes::cursor::{Cursor, begins, is, split};
 use sq_lexemes::error::ParseError;
 use sq_lexemes::names::{column_name, name};
 use sq_lexemes::texts::text;
 use sq_lexemes::types::type_name;
-use sq_parts::HeldExpression;
-use sq_syntax::{
-    Constant, Expression, Lexeme, Moment, Parameter, ParameterName, Purpose, Reading, Symbol,
-};
+use sq_parts::{HeldExpression, nodes};
+use sq_syntax::{Constant, Lexeme, Moment, Parameter, ParameterName, Purpose, Reading, Symbol};
 use std::alloc::Global;
 
 pub fn constant(
@@ -29,13 +26,8 @@ pub fn constant(
 {
     let begun = tokens.copy();
     tokens.take()?;
-    Ok(HeldExpression::new(boxed_node(
-        alloc,
-        tokens,
-        &begun,
-        begun.here(),
-        Expression::Constant(constant),
-    )?))
+    let mark = tokens.node(&begun, begun.here(), ());
+    Ok(nodes::constant(alloc, mark, constant)?)
 }
 
 pub fn parameter(
@@ -47,13 +39,8 @@ pub fn parameter(
 {
     let begun = tokens.copy();
     tokens.take()?;
-    Ok(HeldExpression::new(boxed_node(
-        alloc,
-        tokens,
-        &begun,
-        begun.here(),
-        Expression::Parameter(parameter),
-    )?))
+    let mark = tokens.node(&begun, begun.here(), ());
+    Ok(nodes::parameter(alloc, mark, parameter)?)
 }
 
 fn begins_text(tokens: &[Lexeme]) -> bool
@@ -126,8 +113,8 @@ pub fn purposed(alloc: Global, tokens: &mut Cursor<'_>) -> Result<HeldExpression
     tokens.expect(Symbol::Open)?;
     let name = parameter_name(alloc, tokens)?;
     tokens.expect(Symbol::Close)?;
-    let form = Expression::Parameter(Parameter::Called(purpose, name));
-    Ok(HeldExpression::new(boxed_node(alloc, tokens, &begun, begun.here(), form)?))
+    let mark = tokens.node(&begun, begun.here(), ());
+    Ok(nodes::parameter(alloc, mark, Parameter::Called(purpose, name))?)
 }
 
 #[tactic(auto, unfolding(crate::specs::Words::typed_text))]
@@ -137,13 +124,8 @@ pub fn typed_text(alloc: Global, tokens: &mut Cursor<'_>) -> Result<HeldExpressi
     let begun = tokens.copy();
     let to = type_name(alloc, tokens)?;
     let bytes = text(alloc, tokens)?;
-    Ok(HeldExpression::new(boxed_node(
-        alloc,
-        tokens,
-        &begun,
-        begun.here(),
-        Expression::TypedText(to, bytes),
-    )?))
+    let mark = tokens.node(&begun, begun.here(), ());
+    Ok(nodes::typed_text(alloc, mark, to, bytes)?)
 }
 
 #[tactic(auto, unfolding(crate::specs::Words::column))]
@@ -152,13 +134,8 @@ pub fn column(alloc: Global, tokens: &mut Cursor<'_>) -> Result<HeldExpression, 
 {
     let begun = tokens.copy();
     let name = column_name(alloc, tokens)?;
-    Ok(HeldExpression::new(boxed_node(
-        alloc,
-        tokens,
-        &begun,
-        begun.here(),
-        Expression::Column(name),
-    )?))
+    let mark = tokens.node(&begun, begun.here(), ());
+    Ok(nodes::column(alloc, mark, name)?)
 }
 
 fn symbol_of(word: Moment) -> Symbol
@@ -180,11 +157,6 @@ pub fn moment(
 {
     let begun = tokens.copy();
     tokens.expect(symbol_of(word))?;
-    Ok(HeldExpression::new(boxed_node(
-        alloc,
-        tokens,
-        &begun,
-        begun.here(),
-        Expression::Moment(word),
-    )?))
+    let mark = tokens.node(&begun, begun.here(), ());
+    Ok(nodes::moment(alloc, mark, word)?)
 }

@@ -10,14 +10,14 @@ ghost use Rattle.sq_lexemes.specs.Cursor.{IsText};
 ghost use Rattle.sq_parse_expr.specs.Nests.{Nests};
 ghost use Rattle.sq_lexemes.specs.Reads.{Finds, Reads};
 
-use crate::grammar::{Grammar, Tree, Wanted, boxed_node};
+use crate::grammar::{Grammar, Tree, Wanted};
 use sq_base::List;
 use sq_lexemes::cursor::Cursor;
 use sq_lexemes::error::ParseError;
 use sq_lexemes::lists::list_with_first;
 use sq_lexemes::texts::field;
 use sq_lexemes::types::type_name;
-use sq_parts::{HeldExpression, case, expressions, indices};
+use sq_parts::{HeldExpression, nodes};
 use sq_syntax::{Arm, Expression, Index, Pool, Symbol};
 use std::alloc::Global;
 
@@ -41,8 +41,8 @@ impl<F: Fn(Global, &mut Cursor<'_>, usize, Wanted) -> Result<Tree, ParseError>> 
         tokens.expect(Symbol::Open)?;
         let query = self.inner(tokens)?;
         tokens.expect(Symbol::Close)?;
-        let form = Expression::Scalar(query.into_box());
-        Ok(HeldExpression::new(boxed_node(self.alloc, tokens, &begun, begun.here(), form)?))
+        let mark = tokens.node(&begun, begun.here(), ());
+        Ok(nodes::scalar(self.alloc, mark, query)?)
     }
 
     #[tactic(auto, unfolding(crate::specs::Words::bracketed))]
@@ -54,8 +54,8 @@ impl<F: Fn(Global, &mut Cursor<'_>, usize, Wanted) -> Result<Tree, ParseError>> 
         tokens.expect(Symbol::Open)?;
         let inner = self.nested(tokens)?;
         tokens.expect(Symbol::Close)?;
-        let form = Expression::Bracketed(inner.into_box());
-        Ok(HeldExpression::new(boxed_node(self.alloc, tokens, &begun, begun.here(), form)?))
+        let mark = tokens.node(&begun, begun.here(), ());
+        Ok(nodes::bracketed(self.alloc, mark, inner)?)
     }
 
     #[tactic(auto, unfolding(crate::specs::Words::exists))]
@@ -68,8 +68,8 @@ impl<F: Fn(Global, &mut Cursor<'_>, usize, Wanted) -> Result<Tree, ParseError>> 
         tokens.expect(Symbol::Open)?;
         let query = self.inner(tokens)?;
         tokens.expect(Symbol::Close)?;
-        let form = Expression::Exists(query.into_box());
-        Ok(HeldExpression::new(boxed_node(self.alloc, tokens, &begun, begun.here(), form)?))
+        let mark = tokens.node(&begun, begun.here(), ());
+        Ok(nodes::exists(self.alloc, mark, query)?)
     }
 
     #[tactic(auto, unfolding(crate::specs::Words::array))]
@@ -83,20 +83,14 @@ impl<F: Fn(Global, &mut Cursor<'_>, usize, Wanted) -> Result<Tree, ParseError>> 
             tokens.expect(Symbol::Open)?;
             let query = self.inner(tokens)?;
             tokens.expect(Symbol::Close)?;
-            let form = Expression::ArrayQuery(query.into_box());
-            return Ok(HeldExpression::new(boxed_node(
-                self.alloc,
-                tokens,
-                &begun,
-                begun.here(),
-                form,
-            )?));
+            let mark = tokens.node(&begun, begun.here(), ());
+            return Ok(nodes::array_query(self.alloc, mark, query)?);
         }
         tokens.expect(Symbol::OpenSquare)?;
         let items = self.list(tokens)?;
         tokens.expect(Symbol::CloseSquare)?;
-        let form = Expression::ArrayList(expressions(self.alloc, items)?);
-        Ok(HeldExpression::new(boxed_node(self.alloc, tokens, &begun, begun.here(), form)?))
+        let mark = tokens.node(&begun, begun.here(), ());
+        Ok(nodes::array_list(self.alloc, mark, items)?)
     }
 
     fn subject(&self, tokens: &mut Cursor<'_>) -> Result<Option<HeldExpression>, ParseError>
@@ -161,8 +155,8 @@ impl<F: Fn(Global, &mut Cursor<'_>, usize, Wanted) -> Result<Tree, ParseError>> 
         let last = self.otherwise(tokens)?;
         tokens.expect(Symbol::End)?;
         let arms = list_with_first(self.alloc, first, more)?;
-        let form = case(self.alloc, subject, arms, last)?;
-        Ok(HeldExpression::new(boxed_node(self.alloc, tokens, &begun, begun.here(), form)?))
+        let mark = tokens.node(&begun, begun.here(), ());
+        Ok(nodes::case(self.alloc, mark, subject, arms, last)?)
     }
 
     #[tactic(auto, unfolding(crate::specs::Words::cast))]
@@ -177,8 +171,8 @@ impl<F: Fn(Global, &mut Cursor<'_>, usize, Wanted) -> Result<Tree, ParseError>> 
         tokens.expect(Symbol::As)?;
         let to = type_name(self.alloc, tokens)?;
         tokens.expect(Symbol::Close)?;
-        let form = Expression::Cast(value.into_box(), to);
-        Ok(HeldExpression::new(boxed_node(self.alloc, tokens, &begun, begun.here(), form)?))
+        let mark = tokens.node(&begun, begun.here(), ());
+        Ok(nodes::cast(self.alloc, mark, value, to)?)
     }
 
     #[tactic(auto, unfolding(crate::specs::Words::pooled))]
@@ -191,8 +185,8 @@ impl<F: Fn(Global, &mut Cursor<'_>, usize, Wanted) -> Result<Tree, ParseError>> 
         tokens.expect(Symbol::Open)?;
         let items = self.list(tokens)?;
         tokens.expect(Symbol::Close)?;
-        let form = Expression::Pooled(word, expressions(self.alloc, items)?);
-        Ok(HeldExpression::new(boxed_node(self.alloc, tokens, &begun, begun.here(), form)?))
+        let mark = tokens.node(&begun, begun.here(), ());
+        Ok(nodes::pooled(self.alloc, mark, word, items)?)
     }
 
     #[tactic(auto, unfolding(crate::specs::Words::null_if))]
@@ -207,8 +201,8 @@ impl<F: Fn(Global, &mut Cursor<'_>, usize, Wanted) -> Result<Tree, ParseError>> 
         tokens.expect(Symbol::Comma)?;
         let right = self.nested(tokens)?;
         tokens.expect(Symbol::Close)?;
-        let form = Expression::NullIf(left.into_box(), right.into_box());
-        Ok(HeldExpression::new(boxed_node(self.alloc, tokens, &begun, begun.here(), form)?))
+        let mark = tokens.node(&begun, begun.here(), ());
+        Ok(nodes::null_if(self.alloc, mark, left, right)?)
     }
 
     #[tactic(auto, unfolding(crate::specs::Words::extract))]
@@ -223,8 +217,8 @@ impl<F: Fn(Global, &mut Cursor<'_>, usize, Wanted) -> Result<Tree, ParseError>> 
         tokens.expect(Symbol::From)?;
         let value = self.nested(tokens)?;
         tokens.expect(Symbol::Close)?;
-        let form = Expression::Extract(word, value.into_box());
-        Ok(HeldExpression::new(boxed_node(self.alloc, tokens, &begun, begun.here(), form)?))
+        let mark = tokens.node(&begun, begun.here(), ());
+        Ok(nodes::extract(self.alloc, mark, word, value)?)
     }
 }
 
@@ -282,8 +276,7 @@ impl<F: Fn(Global, &mut Cursor<'_>, usize, Wanted) -> Result<Tree, ParseError>> 
             return Ok(operand);
         };
         let place = link.place;
-        let links = indices(self.alloc, links)?;
-        let form = Expression::Subscript(operand.into_box(), links);
-        Ok(HeldExpression::new(boxed_node(self.alloc, tokens, &begun, place, form)?))
+        let mark = tokens.node(&begun, place, ());
+        Ok(nodes::subscript(self.alloc, mark, operand, links)?)
     }
 }

@@ -1,34 +1,17 @@
 //! The rules take the parser of what stands in brackets and in CASE as a parameter, so that each
 //! is proved by itself.
 
-ghost use Rattle.std.specs.Prelude.{◌≡◌, ◌-◌, IfOk};
 ghost use Rattle.sq_parse_expr.specs.Depth.{expressions, queries};
 ghost use Rattle.sq_parse_expr.specs.Nests.{Nests};
 ghost use Rattle.sq_lexemes.specs.Reads.{Reads};
 
-use sq_base::Place;
 use sq_lexemes::cursor::Cursor;
 use sq_lexemes::error::ParseError;
 use sq_parts::{HeldExpression, HeldQuery};
-use sq_syntax::Node;
-use sqlite_items::Boxed;
-use std::alloc::{AllocError, Global};
-
-/// What began there, and ends before the next token, in a box.
-pub fn boxed_node<T: Drop>(
-    alloc: Global,
-    tokens: &Cursor<'_>,
-    begun: &Cursor<'_>,
-    place: Place,
-    form: T,
-) -> Result<Boxed<Node<T>>, AllocError>
-    ensures { IfOk result (λ node. node ≡ record { place = place; first = begun.now.at; last = tokens.now.at - 1; form = form }) }
-{
-    Boxed::new(alloc, tokens.node(begun, place, form))
-}
+use std::alloc::Global;
 
 /// What tokens are read as.
-#[derive(Clone, Copy, Debug, PartialEq, Eq)]
+#[derive(Clone, Copy)]
 pub enum Wanted {
     Expression,
     Query,

@@ -9,14 +9,14 @@ ghost use Rattle.sq_parse_expr.specs.Depth as at;
 ghost use Rattle.sq_parse_expr.specs.Nests.{Nests, Parses};
 ghost use Rattle.sq_lexemes.specs.Reads.{Finds, Reads};
 
-use crate::grammar::{Grammar, Tree, Wanted, boxed_node};
+use crate::grammar::{Grammar, Tree, Wanted};
 use sq_base::List;
 use sq_lexemes::cursor::Cursor;
 use sq_lexemes::error::ParseError;
 use sq_lexemes::marks::{collations, conversions, negations, signs};
 use sq_lexemes::operators::{operator, sees_link};
-use sq_parts::{HeldExpression, joints};
-use sq_syntax::{Expression, Joint, Link, Symbol};
+use sq_parts::{HeldExpression, nodes};
+use sq_syntax::{Joint, Link, Symbol};
 use std::alloc::Global;
 
 impl<F: Fn(Global, &mut Cursor<'_>, usize, Wanted) -> Result<Tree, ParseError>> Grammar<F> {
@@ -32,8 +32,8 @@ impl<F: Fn(Global, &mut Cursor<'_>, usize, Wanted) -> Result<Tree, ParseError>> 
             return Ok(operand);
         };
         let place = link.place;
-        let form = Expression::Converted(operand.into_box(), links);
-        Ok(HeldExpression::new(boxed_node(self.alloc, tokens, &begun, place, form)?))
+        let mark = tokens.node(&begun, place, ());
+        Ok(nodes::converted(self.alloc, mark, operand, links)?)
     }
 
     #[tactic(auto, using(crate::proofs::Chains::prefixed_is), unfolding(crate::specs::Words::signed))]
@@ -48,8 +48,8 @@ impl<F: Fn(Global, &mut Cursor<'_>, usize, Wanted) -> Result<Tree, ParseError>> 
             return Ok(operand);
         };
         let place = mark.place;
-        let form = Expression::Signed(marks, operand.into_box());
-        Ok(HeldExpression::new(boxed_node(self.alloc, tokens, &begun, place, form)?))
+        let mark = tokens.node(&begun, place, ());
+        Ok(nodes::signed(self.alloc, mark, marks, operand)?)
     }
 
     #[tactic(auto, using(crate::proofs::Chains::chained_is), unfolding(crate::specs::Words::collated))]
@@ -64,8 +64,8 @@ impl<F: Fn(Global, &mut Cursor<'_>, usize, Wanted) -> Result<Tree, ParseError>> 
             return Ok(operand);
         };
         let place = link.place;
-        let form = Expression::Collated(operand.into_box(), links);
-        Ok(HeldExpression::new(boxed_node(self.alloc, tokens, &begun, place, form)?))
+        let mark = tokens.node(&begun, place, ());
+        Ok(nodes::collated(self.alloc, mark, operand, links)?)
     }
 
     fn zone_link(&self, tokens: &mut Cursor<'_>) -> Result<Joint<HeldExpression>, ParseError>
@@ -107,9 +107,8 @@ impl<F: Fn(Global, &mut Cursor<'_>, usize, Wanted) -> Result<Tree, ParseError>> 
             return Ok(operand);
         };
         let place = link.place;
-        let links = joints(self.alloc, links)?;
-        let form = Expression::AtTimeZone(operand.into_box(), links);
-        Ok(HeldExpression::new(boxed_node(self.alloc, tokens, &begun, place, form)?))
+        let mark = tokens.node(&begun, place, ());
+        Ok(nodes::at_time_zone(self.alloc, mark, operand, links)?)
     }
 
     fn powers(&self, tokens: &mut Cursor<'_>) -> Result<HeldExpression, ParseError>
@@ -161,8 +160,8 @@ impl<F: Fn(Global, &mut Cursor<'_>, usize, Wanted) -> Result<Tree, ParseError>> 
             return Ok(operand);
         };
         let place = *mark;
-        let form = Expression::Not(marks, operand.into_box());
-        Ok(HeldExpression::new(boxed_node(self.alloc, tokens, &begun, place, form)?))
+        let mark = tokens.node(&begun, place, ());
+        Ok(nodes::not(self.alloc, mark, marks, operand)?)
     }
 
     fn and_link(&self, tokens: &mut Cursor<'_>) -> Result<Joint<HeldExpression>, ParseError>
@@ -202,9 +201,8 @@ impl<F: Fn(Global, &mut Cursor<'_>, usize, Wanted) -> Result<Tree, ParseError>> 
             return Ok(operand);
         };
         let place = link.place;
-        let links = joints(self.alloc, links)?;
-        let form = Expression::And(operand.into_box(), links);
-        Ok(HeldExpression::new(boxed_node(self.alloc, tokens, &begun, place, form)?))
+        let mark = tokens.node(&begun, place, ());
+        Ok(nodes::and(self.alloc, mark, operand, links)?)
     }
 
     fn or_link(&self, tokens: &mut Cursor<'_>) -> Result<Joint<HeldExpression>, ParseError>
@@ -245,9 +243,8 @@ impl<F: Fn(Global, &mut Cursor<'_>, usize, Wanted) -> Result<Tree, ParseError>> 
             return Ok(operand);
         };
         let place = link.place;
-        let links = joints(self.alloc, links)?;
-        let form = Expression::Or(operand.into_box(), links);
-        Ok(HeldExpression::new(boxed_node(self.alloc, tokens, &begun, place, form)?))
+        let mark = tokens.node(&begun, place, ());
+        Ok(nodes::or(self.alloc, mark, operand, links)?)
     }
 }
 
@@ -308,8 +305,7 @@ impl<F> Grammar<F> {
             return Ok(left);
         };
         let place = link.place;
-        let links = sq_parts::links(self.alloc, links)?;
-        let form = Expression::Operation(left.into_box(), links);
-        Ok(HeldExpression::new(boxed_node(self.alloc, tokens, &begun, place, form)?))
+        let mark = tokens.node(&begun, place, ());
+        Ok(nodes::operation(self.alloc, mark, left, links)?)
     }
 }

@@ -8,15 +8,15 @@ ghost use Rattle.sq_parse_expr.specs.Nests.{Nests};
 ghost use Rattle.sq_lexemes.specs.Reads.{Reads};
 
 use crate::brackets::holds_query;
-use crate::grammar::{Grammar, Tree, Wanted, boxed_node};
+use crate::grammar::{Grammar, Tree, Wanted};
 use sq_base::Place;
 use sq_lexemes::cursor::Cursor;
 use sq_lexemes::error::ParseError;
 use sq_lexemes::operators::{
     begins_comparison, begins_quantified, comparison, operator, quantifier,
 };
-use sq_parts::{HeldExpression, expressions};
-use sq_syntax::{Expression, Lexeme, Matching, Operator, Quantifier, Reading, Symbol, Test};
+use sq_parts::{HeldExpression, nodes};
+use sq_syntax::{Lexeme, Matching, Operator, Quantifier, Reading, Symbol, Test};
 use std::alloc::Global;
 
 fn sees_range(tokens: &Cursor<'_>, word: Symbol) -> bool
@@ -54,8 +54,8 @@ impl<F: Fn(Global, &mut Cursor<'_>, usize, Wanted) -> Result<Tree, ParseError>> 
     {
         let lexeme = tokens.take()?;
         let test = test_of(negated, lexeme).ok_or(ParseError::Syntax)?;
-        let form = Expression::Tested(left.into_box(), test);
-        Ok(HeldExpression::new(boxed_node(self.alloc, tokens, begun, place, form)?))
+        let mark = tokens.node(begun, place, ());
+        Ok(nodes::tested(self.alloc, mark, left, test)?)
     }
 
     fn distinct_from(
@@ -72,8 +72,8 @@ impl<F: Fn(Global, &mut Cursor<'_>, usize, Wanted) -> Result<Tree, ParseError>> 
         tokens.expect(Symbol::Distinct)?;
         tokens.expect(Symbol::From)?;
         let right = self.related(tokens)?;
-        let form = Expression::Distinct(left.into_box(), negated, right.into_box());
-        Ok(HeldExpression::new(boxed_node(self.alloc, tokens, begun, place, form)?))
+        let mark = tokens.node(begun, place, ());
+        Ok(nodes::distinct(self.alloc, mark, left, negated, right)?)
     }
 
     fn is_after(
@@ -113,8 +113,8 @@ impl<F: Fn(Global, &mut Cursor<'_>, usize, Wanted) -> Result<Tree, ParseError>> 
             return Ok(left);
         };
         tokens.expect(word)?;
-        let form = Expression::Tested(left.into_box(), test);
-        Ok(HeldExpression::new(boxed_node(self.alloc, tokens, begun, place, form)?))
+        let mark = tokens.node(begun, place, ());
+        Ok(nodes::tested(self.alloc, mark, left, test)?)
     }
 
     #[tactic(auto, unfolding(crate::specs::Words::testing))]
@@ -148,14 +148,8 @@ impl<F: Fn(Global, &mut Cursor<'_>, usize, Wanted) -> Result<Tree, ParseError>> 
         let low = self.above_tests(tokens)?;
         tokens.expect(Symbol::And)?;
         let high = self.above_tests(tokens)?;
-        let form = Expression::Between(
-            left.into_box(),
-            negated,
-            symmetric,
-            low.into_box(),
-            high.into_box(),
-        );
-        Ok(HeldExpression::new(boxed_node(self.alloc, tokens, begun, place, form)?))
+        let mark = tokens.node(begun, place, ());
+        Ok(nodes::between(self.alloc, mark, left, negated, symmetric, low, high)?)
     }
 
     fn like_after(
@@ -173,8 +167,8 @@ impl<F: Fn(Global, &mut Cursor<'_>, usize, Wanted) -> Result<Tree, ParseError>> 
         let negated = tokens.optional(Symbol::Not)?;
         tokens.expect(word)?;
         let right = self.above_tests(tokens)?;
-        let form = Expression::Like(left.into_box(), negated, matching, right.into_box());
-        Ok(HeldExpression::new(boxed_node(self.alloc, tokens, begun, place, form)?))
+        let mark = tokens.node(begun, place, ());
+        Ok(nodes::like(self.alloc, mark, left, negated, matching, right)?)
     }
 
     fn in_query(
@@ -191,8 +185,8 @@ impl<F: Fn(Global, &mut Cursor<'_>, usize, Wanted) -> Result<Tree, ParseError>> 
         tokens.expect(Symbol::Open)?;
         let query = self.inner(tokens)?;
         tokens.expect(Symbol::Close)?;
-        let form = Expression::InQuery(left.into_box(), negated, query.into_box());
-        Ok(HeldExpression::new(boxed_node(self.alloc, tokens, begun, place, form)?))
+        let mark = tokens.node(begun, place, ());
+        Ok(nodes::in_query(self.alloc, mark, left, negated, query)?)
     }
 
     fn in_list(
@@ -209,9 +203,8 @@ impl<F: Fn(Global, &mut Cursor<'_>, usize, Wanted) -> Result<Tree, ParseError>> 
         tokens.expect(Symbol::Open)?;
         let items = self.list(tokens)?;
         tokens.expect(Symbol::Close)?;
-        let items = expressions(self.alloc, items)?;
-        let form = Expression::InList(left.into_box(), negated, items);
-        Ok(HeldExpression::new(boxed_node(self.alloc, tokens, begun, place, form)?))
+        let mark = tokens.node(begun, place, ());
+        Ok(nodes::in_list(self.alloc, mark, left, negated, items)?)
     }
 
     fn in_after(
@@ -266,8 +259,8 @@ impl<F: Fn(Global, &mut Cursor<'_>, usize, Wanted) -> Result<Tree, ParseError>> 
     {
         let by = comparison(tokens)?;
         let right = self.ranged(tokens)?;
-        let form = Expression::Compared(left.into_box(), by, right.into_box());
-        Ok(HeldExpression::new(boxed_node(self.alloc, tokens, begun, place, form)?))
+        let mark = tokens.node(begun, place, ());
+        Ok(nodes::compared(self.alloc, mark, left, by, right)?)
     }
 
     fn any_query(
@@ -285,8 +278,8 @@ impl<F: Fn(Global, &mut Cursor<'_>, usize, Wanted) -> Result<Tree, ParseError>> 
         tokens.expect(Symbol::Open)?;
         let query = self.inner(tokens)?;
         tokens.expect(Symbol::Close)?;
-        let form = Expression::AnyQuery(left.into_box(), by, word, query.into_box());
-        Ok(HeldExpression::new(boxed_node(self.alloc, tokens, begun, place, form)?))
+        let mark = tokens.node(begun, place, ());
+        Ok(nodes::any_query(self.alloc, mark, left, by, word, query)?)
     }
 
     fn any_array(
@@ -304,8 +297,8 @@ impl<F: Fn(Global, &mut Cursor<'_>, usize, Wanted) -> Result<Tree, ParseError>> 
         tokens.expect(Symbol::Open)?;
         let right = self.nested(tokens)?;
         tokens.expect(Symbol::Close)?;
-        let form = Expression::AnyArray(left.into_box(), by, word, right.into_box());
-        Ok(HeldExpression::new(boxed_node(self.alloc, tokens, begun, place, form)?))
+        let mark = tokens.node(begun, place, ());
+        Ok(nodes::any_array(self.alloc, mark, left, by, word, right)?)
     }
 
     fn quantified_after(

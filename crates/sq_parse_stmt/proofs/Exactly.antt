@@ -2,46 +2,20 @@
 use Rattle.std.proofs.Common.{◌≡◌, ◌≢◌, ◌≤◌, ◌<◌, ◌∙◌, sym, refl, ap, arith, ℕ, List, map, min, Option, None, Some, Result, Err}
 use Rattle.std.proofs.Math.Nat.{min-le_left}
 use Rattle.sq_base.specs.declared.refusal.Fault.{Fault}
-use Rattle.sq_syntax.specs.declared.ddl.Ddl.{Ddl}
 use Rattle.sq_syntax.specs.declared.statement.Statement.{Statement}
 use Rattle.sq_syntax.specs.declared.token.Token.{Token}
-use Rattle.sq_syntax.specs.Schemas.{IsDdl}
 use Rattle.sq_syntax.specs.Statements.{IsStatement}
 use Rattle.sq_syntax.specs.Symbols.{lexeme}
-use Rattle.sq_grammar.specs.Schemas.{ddl}
 use Rattle.sq_grammar.specs.Statements.{statements}
 use Rattle.sq_grammar.specs.Whole.{whole as whole_tokens}
-use Rattle.sq_grammar.proofs.OneDdl.{ddl_exactly}
 use Rattle.sq_grammar.proofs.OneStatement.{statements_exactly}
 use Rattle.sq_lexemes.specs.declared.error.ParseError.{ParseError}
 use Rattle.sq_lexemes.specs.declared.error.ParseError.TheVariants.{Memory, Syntax}
 use Rattle.sq_lexemes.specs.Reads.{Finds}
 use Rattle.sq_lexemes.specs.Whole.{whole}
-use Rattle.sq_lexemes.specs.Answers.{Answers, Exceeds, Prepares, Readable, Refuses}
-use Rattle.sq_parse_stmt.specs.Answers.{no_height}
+use Rattle.sq_lexemes.specs.Answers.{Answers, Prepares, Readable, Refuses}
 
--- ---- schema statements
-
-same_whole : (tokens : List Token) → whole_tokens ddl tokens ≡ whole ddl (map lexeme tokens)
-unfolding whole_tokens
-same_whole tokens = refl
-
-pub read : (tokens : List Token) (x : Ddl) → whole ddl (map lexeme tokens) ≡ Some x → IsDdl tokens x
-read tokens x found = (ddl_exactly tokens x).0 (same_whole tokens ∙ found)
-
-pub not_read : (tokens : List Token) → whole ddl (map lexeme tokens) ≡ None → (x : Ddl) → IsDdl tokens x → ⊥
-not_read tokens none x is =
-    let found = (ddl_exactly tokens x).1 is in
-    let p : None ≡ Some x = sym none ∙ (sym (same_whole tokens) ∙ found) in
-    cc
-
-pub exceeded : (tokens : List Token) (number : ℕ) → Exceeds tokens number → Refuses IsDdl no_height tokens number
-exceeded tokens number h = Refuses.exceeds number h
-
-pub unread : (tokens : List Token) → Readable tokens → whole ddl (map lexeme tokens) ≡ None → Refuses IsDdl no_height tokens 6
-unread tokens h none = Refuses.no_tree h (not_read tokens none)
-
--- ---- queries and changes of data
+-- ---- statements
 
 same_whole_statement : (p : _) (tokens : List Token) → whole_tokens {A = Statement} p tokens ≡ whole p (map lexeme tokens)
 unfolding whole_tokens
@@ -68,7 +42,7 @@ tall height r x y one same h = omega (arith, ap height one, same, h, min-le_left
 
 pub unprepared : {A : Type 0} (Is : List Token → A → Type 0) (height : A → ℕ) (tokens : List Token) (fault : Fault) → Prepares tokens (Err fault) → Answers Is height tokens (Err fault)
 unprepared Is height tokens Fault.Memory h = h
-unprepared Is height tokens (Fault.Refused r) h = (Refuses.exceeds r.number h.0, h.1)
+unprepared Is height tokens (Fault.Refused r) h = (Refuses.exceeds r.code h.0, h.1)
 
 differ : Syntax ≢ Memory
 differ h = cc

@@ -9,38 +9,34 @@ ghost use Rattle.sq_lexemes.specs.Reads.{Reads};
 ghost use Rattle.sq_parse_expr.specs.Depth.{outer, queries};
 ghost use Rattle.sq_parse_stmt.specs.Changes as parts;
 
-use crate::held_changes::HeldAssignment;
 use crate::rows::given;
-use crate::words::expect_word;
 use sq_base::List;
 use sq_lexemes::cursor::Cursor;
 use sq_lexemes::error::ParseError;
 use sq_lexemes::lists::list_with_first;
 use sq_lexemes::names::name;
-use sq_syntax::Symbol;
+use sq_syntax::{Assignment, Symbol};
+use sq_words::expect_word;
 use std::alloc::Global;
 
 #[tactic(auto, unfolding(crate::specs::Words::assignment))]
-fn assignment(alloc: Global, tokens: &mut Cursor<'_>) -> Result<HeldAssignment, ParseError>
+fn assignment(alloc: Global, tokens: &mut Cursor<'_>) -> Result<Assignment, ParseError>
     ensures { Reads (spec.assignment (outer 64) (queries 64) tokens.old) result tokens.new }
 {
     let column = name(alloc, tokens)?;
     tokens.expect(Symbol::Equal)?;
     let value = given(alloc, tokens)?;
-    Ok(HeldAssignment::new(alloc, column, value)?)
+    Ok(Assignment { column, value })
 }
 
-fn next_assignment(alloc: Global, tokens: &mut Cursor<'_>) -> Result<HeldAssignment, ParseError>
+fn next_assignment(alloc: Global, tokens: &mut Cursor<'_>) -> Result<Assignment, ParseError>
     ensures { Reads (parts.next_assignment (outer 64) (queries 64) tokens.old) result tokens.new }
 {
     tokens.expect(Symbol::Comma)?;
     assignment(alloc, tokens)
 }
 
-fn more_assignments(
-    alloc: Global,
-    tokens: &mut Cursor<'_>,
-) -> Result<List<HeldAssignment>, ParseError>
+fn more_assignments(alloc: Global, tokens: &mut Cursor<'_>) -> Result<List<Assignment>, ParseError>
     ensures { Reads (many (sees s.Comma) (parts.next_assignment (outer 64) (queries 64)) tokens.old) result tokens.new }
 {
     let mut found = List::new(alloc);
@@ -54,10 +50,7 @@ fn more_assignments(
     Ok(found)
 }
 
-fn some_assignments(
-    alloc: Global,
-    tokens: &mut Cursor<'_>,
-) -> Result<List<HeldAssignment>, ParseError>
+fn some_assignments(alloc: Global, tokens: &mut Cursor<'_>) -> Result<List<Assignment>, ParseError>
     ensures { Reads (listed (spec.assignment (outer 64) (queries 64)) tokens.old) result tokens.new }
 {
     let first = assignment(alloc, tokens)?;
@@ -66,10 +59,7 @@ fn some_assignments(
 }
 
 #[tactic(auto, unfolding(crate::specs::Words::assignments))]
-pub fn assignments(
-    alloc: Global,
-    tokens: &mut Cursor<'_>,
-) -> Result<List<HeldAssignment>, ParseError>
+pub fn assignments(alloc: Global, tokens: &mut Cursor<'_>) -> Result<List<Assignment>, ParseError>
     ensures { Reads (spec.assignments (outer 64) (queries 64) tokens.old) result tokens.new }
 {
     expect_word(tokens, "set")?;

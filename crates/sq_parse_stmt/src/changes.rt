@@ -8,17 +8,17 @@ ghost use Rattle.sq_parse_stmt.specs.Changes as parts;
 use crate::assignments::assignments;
 use crate::clauses::{returning, sources};
 use crate::conflict::conflict;
-use crate::held_statement::HeldStatement;
 use crate::rows::source;
 use crate::table_names::{as_name, columns, deleted_alias, updated_alias};
-use crate::words::expect_word;
 use sq_base::List;
 use sq_lexemes::cursor::Cursor;
 use sq_lexemes::error::ParseError;
 use sq_lexemes::names::qualified_name;
 use sq_parse_expr::parts::next_clause;
 use sq_parts::HeldQuery;
+use sq_statements::HeldStatement;
 use sq_syntax::{Symbol, With};
+use sq_words::expect_word;
 use std::alloc::Global;
 
 /// The rest of the INSERT that begins there, with these queries of WITH.

@@ -9,7 +9,6 @@ ghost use Rattle.sq_grammar.specs.Statements.{listed};
 ghost use Rattle.sq_lexemes.specs.Reads.{Reads};
 ghost use Rattle.sq_parse_expr.specs.Depth.{outer, queries};
 
-use crate::words::{expect_word, sees_word};
 use sq_base::List;
 use sq_lexemes::cursor::Cursor;
 use sq_lexemes::error::ParseError;
@@ -17,6 +16,7 @@ use sq_lexemes::lists::list_with_first;
 use sq_parse_expr::parts::{next_from, next_output};
 use sq_parts::{HeldExpression, HeldFrom};
 use sq_syntax::{Node, Output, Symbol};
+use sq_words::{expect_word, sees_word};
 use std::alloc::Global;
 
 fn output_behind_comma(

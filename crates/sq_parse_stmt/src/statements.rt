@@ -7,12 +7,12 @@ ghost use Rattle.sq_lexemes.specs.Whole.{whole};
 ghost use Rattle.sq_parse_expr.specs.Depth.{outer, queries};
 
 use crate::changes::{delete, insert, update};
-use crate::held_statement::HeldStatement;
-use crate::words::sees_word;
 use sq_lexemes::cursor::Cursor;
 use sq_lexemes::error::ParseError;
 use sq_parse_expr::parts::{next_query, next_with};
+use sq_statements::HeldStatement;
 use sq_syntax::{Lexeme, Symbol};
+use sq_words::sees_word;
 use std::alloc::Global;
 
 fn whole_query(alloc: Global, tokens: &mut Cursor<'_>) -> Result<HeldStatement, ParseError>

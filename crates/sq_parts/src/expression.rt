@@ -2,8 +2,7 @@
 
 ghost use Rattle.std.specs.Prelude.{◌≡◌, IfOk};
 
-use crate::held_lists::HeldExpressions;
-use crate::lists::sorts;
+use crate::lists::{expressions, sorts};
 use sq_base::List;
 use sq_syntax::{Arguments, Expression, Node, Sort};
 use sqlite_items::Boxed;
@@ -48,16 +47,20 @@ impl HeldExpression {
         part
     }
 
-    pub fn into_part(self) -> Node<Expression>
-        ensures { result ≡ self }
-    {
-        self.into_box().into_inner()
-    }
-
     pub fn part(&self) -> &Node<Expression>
         ensures { result.now ≡ self.now }
     {
         self.part.get()
+    }
+}
+
+/// The box of an expression that may be wanting.
+pub fn unheld(part: Option<HeldExpression>) -> Option<Boxed<Node<Expression>>>
+    ensures { result ≡ part }
+{
+    match part {
+        Some(part) => Some(part.into_box()),
+        None => None,
     }
 }
 
@@ -112,10 +115,10 @@ impl HeldArguments {
     ) -> Result<HeldArguments, AllocError>
         ensures { IfOk result (λ arguments. arguments ≡ Arguments.List distinct items order) }
     {
-        let items = HeldExpressions::new(alloc, items)?;
+        let items = expressions(alloc, items)?;
         let order = sorts(alloc, order)?;
         Ok(HeldArguments {
-            part: Arguments::List(distinct, items.into_part(), order),
+            part: Arguments::List(distinct, items, order),
         })
     }
 

@@ -36,17 +36,11 @@ impl Drop for HeldSource {
 }
 
 impl HeldSource {
-    pub fn into_box(self) -> Boxed<Source>
+    pub(crate) fn into_box(self) -> Boxed<Source>
         ensures { result ≡ self }
     {
         let HeldSource { part } = self;
         part
-    }
-
-    pub(crate) fn into_part(self) -> Source
-        ensures { result ≡ self }
-    {
-        self.into_box().into_inner()
     }
 
     /// `table alias`
@@ -81,17 +75,6 @@ impl HeldSource {
     }
 }
 
-fn unheld(source: Node<HeldSource>) -> Node<Source>
-    ensures { result ≡ source }
-{
-    Node {
-        place: source.place,
-        first: source.first,
-        last: source.last,
-        form: source.form.into_part(),
-    }
-}
-
 /// What is joined to a source.
 pub struct HeldJoin {
     part: Boxed<Join>,
@@ -116,17 +99,11 @@ impl Drop for HeldJoin {
 }
 
 impl HeldJoin {
-    pub fn into_box(self) -> Boxed<Join>
+    pub(crate) fn into_box(self) -> Boxed<Join>
         ensures { result ≡ self }
     {
         let HeldJoin { part } = self;
         part
-    }
-
-    pub(crate) fn into_part(self) -> Join
-        ensures { result ≡ self }
-    {
-        self.into_box().into_inner()
     }
 
     /// `CROSS JOIN source`
@@ -138,7 +115,18 @@ impl HeldJoin {
         ensures { IfOk result (λ join. join ≡ Join.Cross place source) }
     {
         Ok(HeldJoin {
-            part: Boxed::new(alloc, Join::Cross(place, unheld(source)))?,
+            part: Boxed::new(
+                alloc,
+                Join::Cross(
+                    place,
+                    Node {
+                        place: source.place,
+                        first: source.first,
+                        last: source.last,
+                        form: source.form.into_box().into_inner(),
+                    },
+                ),
+            )?,
         })
     }
 
@@ -153,11 +141,24 @@ impl HeldJoin {
         ensures { IfOk result (λ join. join ≡ Join.Matched place kind source condition) }
     {
         let condition = match condition {
-            Matched::On(part) => Matched::On(part.into_part()),
+            Matched::On(part) => Matched::On(part.into_box().into_inner()),
             Matched::Using(names) => Matched::Using(names),
         };
         Ok(HeldJoin {
-            part: Boxed::new(alloc, Join::Matched(place, kind, unheld(source), condition))?,
+            part: Boxed::new(
+                alloc,
+                Join::Matched(
+                    place,
+                    kind,
+                    Node {
+                        place: source.place,
+                        first: source.first,
+                        last: source.last,
+                        form: source.form.into_box().into_inner(),
+                    },
+                    condition,
+                ),
+            )?,
         })
     }
 }
@@ -186,17 +187,11 @@ impl Drop for HeldFrom {
 }
 
 impl HeldFrom {
-    pub fn into_box(self) -> Boxed<From>
+    pub(crate) fn into_box(self) -> Boxed<From>
         ensures { result ≡ self }
     {
         let HeldFrom { part } = self;
         part
-    }
-
-    pub(crate) fn into_part(self) -> From
-        ensures { result ≡ self }
-    {
-        self.into_box().into_inner()
     }
 
     pub fn new(
@@ -211,7 +206,12 @@ impl HeldFrom {
             part: Boxed::new(
                 alloc,
                 From {
-                    source: unheld(source),
+                    source: Node {
+                        place: source.place,
+                        first: source.first,
+                        last: source.last,
+                        form: source.form.into_box().into_inner(),
+                    },
                     joins,
                 },
             )?,

@@ -5,16 +5,14 @@
 #![tactic(auto)]
 
 mod expression;
-mod forms;
 mod from;
-mod held_lists;
 mod lists;
+pub mod nodes;
 mod queries;
 mod select;
 
 pub use expression::{HeldArguments, HeldExpression};
-pub use forms::{call, case};
 pub use from::{HeldFrom, HeldJoin, HeldSource};
-pub use lists::{expressions, froms, indices, joints, links, outputs, withs};
+pub use lists::{froms, outputs, withs};
 pub use queries::{HeldBody, HeldChain, HeldFactor, HeldQuery};
 pub use select::{HeldDistinctness, HeldSelect};

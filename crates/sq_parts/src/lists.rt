@@ -35,7 +35,7 @@ pub fn expressions(
 {
     let mut items = Vec::with_capacity(alloc, held.len())?;
     for each in held.into_vec() {
-        put(&mut items, each.into_part());
+        put(&mut items, each.into_box().into_inner());
     }
     Ok(Items::from_vec(items))
 }
@@ -52,8 +52,8 @@ pub fn arms(
         put(
             &mut items,
             Arm {
-                condition: each.condition.into_part(),
-                value: each.value.into_part(),
+                condition: each.condition.into_box().into_inner(),
+                value: each.value.into_box().into_inner(),
             },
         );
     }
@@ -72,7 +72,7 @@ pub fn sorts(
         put(
             &mut items,
             Sort {
-                key: each.key.into_part(),
+                key: each.key.into_box().into_inner(),
                 direction: each.direction,
                 nulls: each.nulls,
             },
@@ -94,7 +94,7 @@ pub fn indices(
             &mut items,
             Index {
                 place: each.place,
-                index: each.index.into_part(),
+                index: each.index.into_box().into_inner(),
             },
         );
     }
@@ -114,7 +114,7 @@ pub fn joints(
             &mut items,
             Joint {
                 place: each.place,
-                operand: each.operand.into_part(),
+                operand: each.operand.into_box().into_inner(),
             },
         );
     }
@@ -135,21 +135,61 @@ pub fn links(
             Link {
                 place: each.place,
                 operator: each.operator,
-                operand: each.operand.into_part(),
+                operand: each.operand.into_box().into_inner(),
             },
         );
     }
     Ok(Items::from_vec(items))
 }
 
-fn output(held: Output<HeldExpression>) -> Output<Node<Expression>>
+fn output(held: Output<HeldExpression>) -> Output<Boxed<Node<Expression>>>
     ensures { result ≡ held }
 {
     match held {
         Output::Star => Output::Star,
         Output::StarOf(name) => Output::StarOf(name),
-        Output::Value(part, label) => Output::Value(part.into_part(), label),
+        Output::Value(part, label) => Output::Value(part.into_box(), label),
     }
+}
+
+// What takes a part out of its box is generic where it can be: a function that knows the part's
+// type costs its proof much more.
+
+fn output_of<E>(held: Output<Boxed<E>>) -> Output<E>
+    ensures { result ≡ held }
+{
+    match held {
+        Output::Star => Output::Star,
+        Output::StarOf(name) => Output::StarOf(name),
+        Output::Value(part, label) => Output::Value(part.into_inner(), label),
+    }
+}
+
+/// What may be wanting, out of its box.
+pub fn optional<E>(held: Option<Boxed<E>>) -> Option<E>
+    ensures { result ≡ held }
+{
+    match held {
+        Some(part) => Some(part.into_inner()),
+        None => None,
+    }
+}
+
+/// A chain of operands in a box.
+pub fn chain<T: Drop>(
+    alloc: Global,
+    first: Boxed<T>,
+    links: Items<SetLink<T>>,
+) -> Result<Boxed<Operands<T>>, AllocError>
+    ensures { IfOk result (λ chain. chain ≡ record { first = first; links = links }) }
+{
+    Boxed::new(
+        alloc,
+        Operands {
+            first: first.into_inner(),
+            links,
+        },
+    )
 }
 
 /// Outputs of a SELECT.
@@ -167,7 +207,7 @@ pub fn outputs(
                 place: each.place,
                 first: each.first,
                 last: each.last,
-                form: output(each.form),
+                form: output_of(output(each.form)),
             },
         );
     }
@@ -180,7 +220,7 @@ pub fn joins(alloc: Global, held: List<HeldJoin>) -> Result<Items<Join>, AllocEr
 {
     let mut items = Vec::with_capacity(alloc, held.len())?;
     for each in held.into_vec() {
-        put(&mut items, each.into_part());
+        put(&mut items, each.into_box().into_inner());
     }
     Ok(Items::from_vec(items))
 }
@@ -191,7 +231,7 @@ pub fn froms(alloc: Global, held: List<HeldFrom>) -> Result<Items<From>, AllocEr
 {
     let mut items = Vec::with_capacity(alloc, held.len())?;
     for each in held.into_vec() {
-        put(&mut items, each.into_part());
+        put(&mut items, each.into_box().into_inner());
     }
     Ok(Items::from_vec(items))
 }
@@ -211,7 +251,7 @@ pub fn tight_links(
                 place: each.place,
                 operation: each.operation,
                 quantity: each.quantity,
-                operand: each.operand.into_part(),
+                operand: each.operand.into_box().into_inner(),
             },
         );
     }
@@ -233,7 +273,7 @@ pub fn loose_links(
                 place: each.place,
                 operation: each.operation,
                 quantity: each.quantity,
-                operand: each.operand.into_part(),
+                operand: each.operand.into_box().into_inner(),
             },
         );
     }

@@ -4,8 +4,7 @@ ghost use Rattle.std.specs.Prelude.{◌≡◌, IfOk};
 ghost use Rattle.sq_syntax.specs.declared.query.Query.{roll-Query};
 
 use crate::expression::HeldExpression;
-use crate::held_lists::HeldWiths;
-use crate::lists::{loose_links, sorts, tight_links};
+use crate::lists::{chain, loose_links, sorts, tight_links, withs};
 use crate::select::HeldSelect;
 use sq_base::List;
 use sq_syntax::{
@@ -39,17 +38,11 @@ impl Drop for HeldFactor {
 }
 
 impl HeldFactor {
-    pub fn into_box(self) -> Boxed<Factor>
+    pub(crate) fn into_box(self) -> Boxed<Factor>
         ensures { result ≡ self }
     {
         let HeldFactor { part } = self;
         part
-    }
-
-    pub(crate) fn into_part(self) -> Factor
-        ensures { result ≡ self }
-    {
-        self.into_box().into_inner()
     }
 
     /// A SELECT
@@ -57,7 +50,7 @@ impl HeldFactor {
         ensures { IfOk result (λ factor. factor ≡ Factor.Core select) }
     {
         Ok(HeldFactor {
-            part: Boxed::new(alloc, Factor::Core(select.into_part()))?,
+            part: Boxed::new(alloc, Factor::Core(select.into_box().into_inner()))?,
         })
     }
 
@@ -96,17 +89,11 @@ impl Drop for HeldChain {
 }
 
 impl HeldChain {
-    pub fn into_box(self) -> Boxed<Operands<Factor>>
+    pub(crate) fn into_box(self) -> Boxed<Operands<Factor>>
         ensures { result ≡ self }
     {
         let HeldChain { part } = self;
         part
-    }
-
-    pub(crate) fn into_part(self) -> Operands<Factor>
-        ensures { result ≡ self }
-    {
-        self.into_box().into_inner()
     }
 
     pub fn new(
@@ -118,13 +105,7 @@ impl HeldChain {
     {
         let links = tight_links(alloc, links)?;
         Ok(HeldChain {
-            part: Boxed::new(
-                alloc,
-                Operands {
-                    first: first.into_part(),
-                    links,
-                },
-            )?,
+            part: chain(alloc, first.into_box(), links)?,
         })
     }
 }
@@ -154,17 +135,11 @@ impl Drop for HeldBody {
 }
 
 impl HeldBody {
-    pub fn into_box(self) -> Boxed<Operands<Operands<Factor>>>
+    pub(crate) fn into_box(self) -> Boxed<Operands<Operands<Factor>>>
         ensures { result ≡ self }
     {
         let HeldBody { part } = self;
         part
-    }
-
-    pub(crate) fn into_part(self) -> Operands<Operands<Factor>>
-        ensures { result ≡ self }
-    {
-        self.into_box().into_inner()
     }
 
     pub fn new(
@@ -176,13 +151,7 @@ impl HeldBody {
     {
         let links = loose_links(alloc, links)?;
         Ok(HeldBody {
-            part: Boxed::new(
-                alloc,
-                Operands {
-                    first: first.into_part(),
-                    links,
-                },
-            )?,
+            part: chain(alloc, first.into_box(), links)?,
         })
     }
 }
@@ -210,22 +179,44 @@ impl Drop for HeldQuery {
     }
 }
 
-fn limit_of(part: Option<Limit<HeldExpression>>) -> Option<Limit<Node<Expression>>>
-    ensures { result ≡ part }
+fn limit(held: Option<Limit<HeldExpression>>) -> Option<Limit<Boxed<Node<Expression>>>>
+    ensures { result ≡ held }
 {
-    match part {
-        Some(Limit::Count(part)) => Some(Limit::Count(part.into_part())),
+    match held {
+        Some(Limit::Count(part)) => Some(Limit::Count(part.into_box())),
         Some(Limit::All) => Some(Limit::All),
         None => None,
     }
 }
 
-fn offset_of(part: Option<Offset<HeldExpression>>) -> Option<Offset<Node<Expression>>>
-    ensures { result ≡ part }
+fn limit_of<E>(held: Option<Limit<Boxed<E>>>) -> Option<Limit<E>>
+    ensures { result ≡ held }
 {
-    match part {
+    match held {
+        Some(Limit::Count(part)) => Some(Limit::Count(part.into_inner())),
+        Some(Limit::All) => Some(Limit::All),
+        None => None,
+    }
+}
+
+fn offset(held: Option<Offset<HeldExpression>>) -> Option<Offset<Boxed<Node<Expression>>>>
+    ensures { result ≡ held }
+{
+    match held {
         Some(part) => Some(Offset {
-            count: part.count.into_part(),
+            count: part.count.into_box(),
+            word: part.word,
+        }),
+        None => None,
+    }
+}
+
+fn offset_of<E>(held: Option<Offset<Boxed<E>>>) -> Option<Offset<E>>
+    ensures { result ≡ held }
+{
+    match held {
+        Some(part) => Some(Offset {
+            count: part.count.into_inner(),
             word: part.word,
         }),
         None => None,
@@ -238,12 +229,6 @@ impl HeldQuery {
     {
         let HeldQuery { part } = self;
         part
-    }
-
-    pub fn into_part(self) -> Query
-        ensures { result ≡ self }
-    {
-        self.into_box().into_inner()
     }
 
     /// The query that stands where `mark` does.
@@ -259,7 +244,7 @@ impl HeldQuery {
     ) -> Result<HeldQuery, AllocError>
         ensures { IfOk result (λ query. query ≡ roll-Query (record { place = mark.place; first = mark.first; last = mark.last; with = with; body = body; order = order; limit = limit; offset = offset; locks = locks })) }
     {
-        let with = HeldWiths::new(alloc, with)?;
+        let with = withs(alloc, with)?;
         let order = sorts(alloc, order)?;
         Ok(HeldQuery {
             part: Boxed::new(
@@ -268,11 +253,11 @@ impl HeldQuery {
                     place: mark.place,
                     first: mark.first,
                     last: mark.last,
-                    with: with.into_part(),
-                    body: body.into_part(),
+                    with,
+                    body: body.into_box().into_inner(),
                     order,
-                    limit: limit_of(limit),
-                    offset: offset_of(offset),
+                    limit: limit_of(self::limit(limit)),
+                    offset: offset_of(self::offset(offset)),
                     locks,
                 },
             )?,

@@ -3,10 +3,9 @@
 ghost use Rattle.std.specs.Prelude.{◌≡◌, IfOk};
 ghost use Rattle.sq_syntax.specs.declared.query.Select.{roll-Select};
 
-use crate::expression::HeldExpression;
+use crate::expression::{HeldExpression, unheld};
 use crate::from::HeldFrom;
-use crate::held_lists::{HeldFroms, HeldOutputs};
-use crate::lists::expressions;
+use crate::lists::{expressions, froms, optional, outputs};
 use sq_base::List;
 use sq_syntax::{Distinctness, Expression, Node, Output, Select};
 use sqlite_items::Boxed;
@@ -86,27 +85,12 @@ impl Drop for HeldSelect {
     }
 }
 
-fn unheld(part: Option<HeldExpression>) -> Option<Node<Expression>>
-    ensures { result ≡ part }
-{
-    match part {
-        Some(part) => Some(part.into_part()),
-        None => None,
-    }
-}
-
 impl HeldSelect {
-    pub fn into_box(self) -> Boxed<Select>
+    pub(crate) fn into_box(self) -> Boxed<Select>
         ensures { result ≡ self }
     {
         let HeldSelect { part } = self;
         part
-    }
-
-    pub(crate) fn into_part(self) -> Select
-        ensures { result ≡ self }
-    {
-        self.into_box().into_inner()
     }
 
     pub fn new(
@@ -120,19 +104,19 @@ impl HeldSelect {
     ) -> Result<HeldSelect, AllocError>
         ensures { IfOk result (λ select. select ≡ roll-Select (record { distinct = distinct; outputs = shown; from = from; condition = condition; group = group; having = having })) }
     {
-        let outputs = HeldOutputs::new(alloc, shown)?;
-        let from = HeldFroms::new(alloc, from)?;
+        let outputs = outputs(alloc, shown)?;
+        let from = froms(alloc, from)?;
         let group = expressions(alloc, group)?;
         Ok(HeldSelect {
             part: Boxed::new(
                 alloc,
                 Select {
                     distinct: distinct.into_part(),
-                    outputs: outputs.into_part(),
-                    from: from.into_part(),
-                    condition: unheld(condition),
+                    outputs,
+                    from,
+                    condition: optional(unheld(condition)),
                     group,
-                    having: unheld(having),
+                    having: optional(unheld(having)),
                 },
             )?,
         })

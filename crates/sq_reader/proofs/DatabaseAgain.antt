@@ -1,6 +1,6 @@
 -- The file db.go is read again.
 use Rattle.std.proofs.Common.{◌≡◌, true, List, [], ◌∷◌, ◌++◌, codes, Ok}
-use Rattle.sq_core.specs.Layout as layout
+use Rattle.sq_shown.specs.Layout as layout
 use Rattle.sq_reader.specs.Parts.{Text}
 use Rattle.sq_reader.specs.Items.{spot, database_items}
 use Rattle.sq_reader.specs.Reading.{file_items}

@@ -2,8 +2,8 @@
 use Rattle.std.proofs.Common.{◌≡◌, ℕ, Bool, true, false, cond, List, [], ◌∷◌, ◌++◌, codes, Ok, refl, ap, sym, ◌∙◌, append_assoc}
 use Rattle.std.specs.List.{list_any}
 use Rattle.sq_base.specs.declared.file.File.{File}
-use Rattle.sq_core.specs.Layout as layout
-use Rattle.sq_core.specs.declared.signature.ShownField.{ShownField}
+use Rattle.sq_shown.specs.Layout as layout
+use Rattle.sq_shown.specs.declared.signature.ShownField.{ShownField}
 use Rattle.sq_reader.specs.Parts.{Text, run_at}
 use Rattle.sq_reader.specs.Forms.{header, package_at, import_at, import_block_at, imports_at}
 use Rattle.sq_reader.specs.Items.{◌>>=◌}

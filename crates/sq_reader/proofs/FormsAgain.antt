@@ -1,10 +1,10 @@
 -- The forms of a file are read again.
 use Rattle.std.proofs.Common.{◌≡◌, true, List, [], ◌∷◌, ◌++◌, codes, map, Some, None, refl, ap, ◌∙◌, append_assoc, arith, length-append}
 use Rattle.std.specs.List.{list_all, flat_map}
-use Rattle.sq_core.specs.Layout as layout
-use Rattle.sq_core.specs.Lines.{line}
-use Rattle.sq_core.specs.declared.signature.ShownField.{ShownField}
-use Rattle.sq_core.specs.declared.signature.Command.TheVariants.{Many}
+use Rattle.sq_shown.specs.Layout as layout
+use Rattle.sq_shown.specs.Lines.{line}
+use Rattle.sq_shown.specs.declared.signature.ShownField.{ShownField}
+use Rattle.sq_shown.specs.declared.signature.Command.TheVariants.{Many}
 use Rattle.sq_reader.specs.Parts.{Text, not_none}
 use Rattle.sq_reader.specs.Forms.{field_at, struct_at, constant_at, target_at, targets_at, method_at, answered, whole_or}
 use Rattle.sq_reader.specs.Readable.{is_run, is_field}

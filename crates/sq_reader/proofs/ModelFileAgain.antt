@@ -1,9 +1,9 @@
 -- The file models.go is read again, whatever models there are.
 use Rattle.std.proofs.Common.{◌≡◌, true, List, [], ◌∷◌, codes, map, Result, Ok, refl, ap, ◌∙◌}
 use Rattle.std.specs.List.{flat_map, AllByRecursion}
-use Rattle.sq_core.specs.Layout as layout
-use Rattle.sq_core.specs.Signature.{fields}
-use Rattle.sq_core.specs.declared.declaration.ModelDecl.{ModelDecl}
+use Rattle.sq_shown.specs.Layout as layout
+use Rattle.sq_shown.specs.Signature.{fields}
+use Rattle.sq_shown.specs.declared.declaration.ModelDecl.{ModelDecl}
 use Rattle.sq_reader.specs.Parts.{Text}
 use Rattle.sq_reader.specs.Forms.{import_block_at}
 use Rattle.sq_reader.specs.Items.{◌>>=◌, spot}

@@ -3,11 +3,11 @@ use Rattle.std.proofs.Common.{◌≡◌, ℕ, Bool, true, false, cond, List, [],
 use Rattle.std.specs.Prelude.{find}
 use Rattle.std.specs.List.{list_any, flat_map, AllByRecursion}
 use Rattle.std.proofs.lemmas.List.Folds.{flat_map-map}
-use Rattle.sq_core.specs.Layout as layout
-use Rattle.sq_core.specs.Signature.{fields}
-use Rattle.sq_core.specs.Names.{has_equal}
-use Rattle.sq_core.specs.declared.declaration.ModelDecl.{ModelDecl}
-use Rattle.sq_core.specs.declared.signature.ShownField.{ShownField}
+use Rattle.sq_shown.specs.Layout as layout
+use Rattle.sq_shown.specs.Signature.{fields}
+use Rattle.sq_shown.specs.Names.{has_equal}
+use Rattle.sq_shown.specs.declared.declaration.ModelDecl.{ModelDecl}
+use Rattle.sq_shown.specs.declared.signature.ShownField.{ShownField}
 use Rattle.sq_reader.specs.Parts.{Text, Part, same}
 use Rattle.sq_reader.specs.Items.{◌>>=◌, stands, spot, groups, model_item}
 use Rattle.sq_reader.specs.Columns.{model_named, or_later}

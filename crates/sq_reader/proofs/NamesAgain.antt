@@ -2,7 +2,7 @@
 use Rattle.std.proofs.Common.{◌≡◌, ◌||◌, ◌&&◌, Bool, true, false, cond, List, [], ◌∷◌, ◌++◌, refl, ap, sym, subst, ◌∙◌, append_assoc}
 use Rattle.std.specs.List.{list_any, flat_map, AllByRecursion}
 use Rattle.std.proofs.lemmas.Grind.{flat_map-append}
-use Rattle.sq_core.specs.Names.{has_equal}
+use Rattle.sq_shown.specs.Names.{has_equal}
 use Rattle.sq_reader.specs.Parts.{Text, same}
 use Rattle.sq_reader.specs.Reading.{same_space}
 use Rattle.sq_reader.specs.declared.items.Item.{Item}

@@ -1,7 +1,7 @@
 -- Files have one reading at most.
 use Rattle.std.proofs.Common.{◌≡◌, ℕ, List, Result, Ok, sym, ◌∙◌}
 use Rattle.sq_base.specs.declared.file.File.{File}
-use Rattle.sq_core.specs.declared.signature.Shown.{Shown}
+use Rattle.sq_shown.specs.declared.signature.Shown.{Shown}
 use Rattle.sq_reader.specs.Reading.{Reads}
 
 one_list : (a b : List Shown) → ◌≡◌ {A = Result (List Shown) (ℕ × ℕ)} (Ok a) (Ok b) → a ≡ b

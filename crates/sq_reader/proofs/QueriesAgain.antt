@@ -2,14 +2,14 @@
 use Rattle.std.proofs.Common.{◌≡◌, ℕ, Bool, true, false, cond, List, [], ◌∷◌, ◌++◌, codes, Option, Result, Ok, refl, ap, ◌∙◌, arith, length-append}
 use Rattle.std.specs.List.{flat_map, AllByRecursion}
 use Rattle.std.proofs.lemmas.Grind.{flat_map-append}
-use Rattle.sq_core.specs.Layout as layout
-use Rattle.sq_core.specs.Signature.{shown}
-use Rattle.sq_core.specs.declared.declaration.ModelDecl.{ModelDecl}
-use Rattle.sq_core.specs.declared.declaration.QueryFile.{QueryFile}
-use Rattle.sq_core.specs.declared.declaration.QuerySig.{QuerySig}
-use Rattle.sq_core.specs.declared.signature.Command.{Command}
-use Rattle.sq_core.specs.declared.signature.Command.TheVariants.{Many}
-use Rattle.sq_core.specs.declared.signature.Shown.{Shown}
+use Rattle.sq_shown.specs.Layout as layout
+use Rattle.sq_shown.specs.Signature.{shown}
+use Rattle.sq_shown.specs.declared.declaration.ModelDecl.{ModelDecl}
+use Rattle.sq_shown.specs.declared.declaration.QueryFile.{QueryFile}
+use Rattle.sq_shown.specs.declared.declaration.QuerySig.{QuerySig}
+use Rattle.sq_shown.specs.declared.signature.Command.{Command}
+use Rattle.sq_shown.specs.declared.signature.Command.TheVariants.{Many}
+use Rattle.sq_shown.specs.declared.signature.Shown.{Shown}
 use Rattle.sq_reader.specs.Parts.{Text, same}
 use Rattle.sq_reader.specs.Items.{◌>>=◌, spot, is_last_part, groups, query_group, database_items}
 use Rattle.sq_reader.specs.Reading.{declarations, group_named, file_items}

@@ -3,12 +3,12 @@ use Rattle.std.proofs.Common.{◌≡◌, ℕ, ◌+◌, true, List, [], ◌∷◌
 use Rattle.std.specs.List.{flat_map, AllByRecursion}
 use Rattle.std.proofs.lemmas.Grind.{flat_map-append}
 use Rattle.std.proofs.lemmas.List.{map-append}
-use Rattle.sq_core.specs.Layout as layout
-use Rattle.sq_core.specs.Signature.{shown}
-use Rattle.sq_core.specs.Names.{query_top}
-use Rattle.sq_core.specs.declared.declaration.ModelDecl.{ModelDecl}
-use Rattle.sq_core.specs.declared.declaration.QueryFile.{QueryFile}
-use Rattle.sq_core.specs.declared.declaration.QuerySig.{QuerySig}
+use Rattle.sq_shown.specs.Layout as layout
+use Rattle.sq_shown.specs.Signature.{shown}
+use Rattle.sq_shown.specs.Names.{query_top}
+use Rattle.sq_shown.specs.declared.declaration.ModelDecl.{ModelDecl}
+use Rattle.sq_shown.specs.declared.declaration.QueryFile.{QueryFile}
+use Rattle.sq_shown.specs.declared.declaration.QuerySig.{QuerySig}
 use Rattle.sq_reader.specs.Parts.{Text}
 use Rattle.sq_reader.specs.Items.{◌>>=◌, is_imported, with_items}
 use Rattle.sq_reader.specs.Reading.{items_from}

@@ -3,14 +3,14 @@ use Rattle.std.proofs.Common.{◌≡◌, ℕ, ◌+◌, List, [], ◌∷◌, ◌+
 use Rattle.std.specs.Prelude.{find}
 use Rattle.std.specs.List.{flat_map, AllByRecursion}
 use Rattle.std.proofs.lemmas.List.{map-append}
-use Rattle.sq_core.specs.Layout as layout
-use Rattle.sq_core.specs.Signature.{fields, shown, shown_columns, field}
-use Rattle.sq_core.specs.declared.declaration.ModelDecl.{ModelDecl}
-use Rattle.sq_core.specs.declared.declaration.QueryFile.{QueryFile}
-use Rattle.sq_core.specs.declared.declaration.QuerySig.{QuerySig}
-use Rattle.sq_core.specs.declared.signature.Output.{Output}
-use Rattle.sq_core.specs.declared.signature.Shown.{Shown}
-use Rattle.sq_core.specs.declared.signature.ShownField.{ShownField}
+use Rattle.sq_shown.specs.Layout as layout
+use Rattle.sq_shown.specs.Signature.{fields, shown, shown_columns, field}
+use Rattle.sq_shown.specs.declared.declaration.ModelDecl.{ModelDecl}
+use Rattle.sq_shown.specs.declared.declaration.QueryFile.{QueryFile}
+use Rattle.sq_shown.specs.declared.declaration.QuerySig.{QuerySig}
+use Rattle.sq_shown.specs.declared.signature.Output.{Output}
+use Rattle.sq_shown.specs.declared.signature.Shown.{Shown}
+use Rattle.sq_shown.specs.declared.signature.ShownField.{ShownField}
 use Rattle.sq_reader.specs.Parts.{Text}
 use Rattle.sq_reader.specs.Items as items
 use Rattle.sq_reader.specs.Columns.{model_named}

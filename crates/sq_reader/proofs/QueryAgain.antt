@@ -3,12 +3,12 @@ use Rattle.std.proofs.Common.{◌≡◌, ◌<◌, ◌&&◌, Bool, true, false, c
 use Rattle.std.specs.List.{list_all, flat_map}
 use Rattle.std.specs.Option.{option_map_or}
 use Rattle.std.proofs.lemmas.Grind.{flat_map-append}
-use Rattle.sq_core.specs.Layout as layout
-use Rattle.sq_core.specs.Lines.{line}
-use Rattle.sq_core.specs.Identifiers.{constant_name}
-use Rattle.sq_core.specs.declared.signature.Command.TheVariants.{Many}
-use Rattle.sq_core.specs.declared.signature.Shown.{Shown}
-use Rattle.sq_core.specs.declared.signature.ShownField.{ShownField}
+use Rattle.sq_shown.specs.Layout as layout
+use Rattle.sq_shown.specs.Lines.{line}
+use Rattle.sq_shown.specs.Identifiers.{constant_name}
+use Rattle.sq_shown.specs.declared.signature.Command.TheVariants.{Many}
+use Rattle.sq_shown.specs.declared.signature.Shown.{Shown}
+use Rattle.sq_shown.specs.declared.signature.ShownField.{ShownField}
 use Rattle.sq_reader.specs.Parts.{Text, same}
 use Rattle.sq_reader.specs.Forms.{struct_at, constant_at, method_at, is_row_of, if_row_of, row_at, answered, targets_at}
 use Rattle.sq_reader.specs.Items.{query_group, query_items}

@@ -1,9 +1,9 @@
 -- The items of a query: their names, what they use, and what they are shown as.
 use Rattle.std.proofs.Common.{◌≡◌, ◌<◌, ◌&&◌, Bool, true, false, cond, List, [], ◌∷◌, ◌++◌, codes, length, map, Some, None, Option, Ok, refl, ap, sym, ◌∙◌, arith}
-use Rattle.sq_core.specs.Layout as layout
-use Rattle.sq_core.specs.Identifiers.{constant_name}
-use Rattle.sq_core.specs.Names.{has_equal}
-use Rattle.sq_core.specs.declared.signature.ShownField.{ShownField}
+use Rattle.sq_shown.specs.Layout as layout
+use Rattle.sq_shown.specs.Identifiers.{constant_name}
+use Rattle.sq_shown.specs.Names.{has_equal}
+use Rattle.sq_shown.specs.declared.signature.ShownField.{ShownField}
 use Rattle.sq_reader.specs.Parts.{Text, same}
 use Rattle.sq_reader.specs.Parts as option
 use Rattle.sq_reader.specs.Items.{fields_stand, type_stands, result_stands, is_imported, method_stands, query_items}

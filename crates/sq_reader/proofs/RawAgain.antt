@@ -2,7 +2,7 @@
 use Rattle.std.proofs.Common.{◌≡◌, ℕ, ◌==◌, ◌&&◌, ◌||◌, Bool, true, false, cond, [], ◌∷◌, ◌++◌, codes, Some, None, nat_eq, refl, ap, sym, subst, ◌∙◌, append_assoc, arith, ◌⊎◌, inl, inr}
 use Rattle.std.specs.List.{starts_with}
 use Rattle.std.proofs.lemmas.Bool.Decides.{nat_tests}
-use Rattle.sq_core.specs.Layout.{raw, raw_byte as written_byte, leaving, mark}
+use Rattle.sq_shown.specs.Layout.{raw, raw_byte as written_byte, leaving, mark}
 use Rattle.sq_reader.specs.Parts.{Text, outside_at, is_outside, onto, at_quote, raw_after}
 
 -- whether a byte and what follows it begin as U+FEFF

@@ -2,9 +2,9 @@
 use Rattle.std.proofs.Common.{◌≡◌, ◌||◌, Bool, true, false, cond, not, List, [], ◌∷◌, ◌++◌, map, Some, None, Option, Result, Ok, Err, option_map, refl, ap, sym, subst, ◌∙◌, append_assoc}
 use Rattle.std.specs.List.{list_any}
 use Rattle.std.proofs.lemmas.List.{map-append}
-use Rattle.sq_core.specs.Names.{has_equal}
-use Rattle.sq_core.specs.declared.signature.ShownField.{ShownField}
-use Rattle.sq_core.specs.declared.signature.Shown.{Shown}
+use Rattle.sq_shown.specs.Names.{has_equal}
+use Rattle.sq_shown.specs.declared.signature.ShownField.{ShownField}
+use Rattle.sq_shown.specs.declared.signature.Shown.{Shown}
 use Rattle.sq_reader.specs.Parts.{Text, same, ◌>>=◌}
 use Rattle.sq_reader.specs.Columns.{model_fields, or_later, model_named, type_in, picked}
 use Rattle.sq_reader.specs.Reading.{declares_again, shown_by, settled_from, with_shown}

@@ -2,11 +2,11 @@
 use Rattle.std.proofs.Common.{◌≡◌, ◌||◌, Bool, false, List, [], ◌∷◌, ◌++◌, codes, map, Result, Ok, refl, ap, subst, sym, ◌∙◌}
 use Rattle.std.specs.List.{list_any, flat_map}
 use Rattle.sq_base.specs.declared.file.File.{File}
-use Rattle.sq_core.specs.Layout as layout
-use Rattle.sq_core.specs.Names.{has_equal, query_top, top_level, methods, file_names, clash}
-use Rattle.sq_core.specs.declared.declaration.ModelDecl.{ModelDecl}
-use Rattle.sq_core.specs.declared.declaration.QueryFile.{QueryFile}
-use Rattle.sq_core.specs.declared.signature.Shown.{Shown}
+use Rattle.sq_shown.specs.Layout as layout
+use Rattle.sq_shown.specs.Names.{has_equal, query_top, top_level, methods, file_names, clash}
+use Rattle.sq_shown.specs.declared.declaration.ModelDecl.{ModelDecl}
+use Rattle.sq_shown.specs.declared.declaration.QueryFile.{QueryFile}
+use Rattle.sq_shown.specs.declared.signature.Shown.{Shown}
 use Rattle.sq_reader.specs.Parts.{Text, same}
 use Rattle.sq_reader.specs.Items.{◌>>=◌, spot}
 use Rattle.sq_reader.specs.Reading.{file_items, items_from, settled_from, told, with_shown, Reads}

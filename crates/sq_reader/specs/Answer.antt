@@ -1,6 +1,6 @@
 -- What the reader answers.
 use Rattle.std.specs.Prelude.{◌≡◌, ℕ, List, Result, Ok, Err}
-use Rattle.sq_core.specs.declared.signature.Shown.{Shown}
+use Rattle.sq_shown.specs.declared.signature.Shown.{Shown}
 use Rattle.sq_reader.specs.declared.read.ReadBack.{ReadBack}
 use Rattle.sq_reader.specs.declared.read.ReadBack.TheVariants.{NotDeclaration, Memory}
 

@@ -1,7 +1,7 @@
 -- The columns of a query, from its struct and its scan targets.
 use Rattle.std.specs.Prelude.{List, [], ◌∷◌, codes, if◌then◌else◌, Option, Some, None, option_map}
-use Rattle.sq_core.specs.declared.signature.ShownField.{ShownField}
-use Rattle.sq_core.specs.declared.signature.Shown.{Shown}
+use Rattle.sq_shown.specs.declared.signature.ShownField.{ShownField}
+use Rattle.sq_shown.specs.declared.signature.Shown.{Shown}
 use Rattle.sq_reader.specs.Parts.{Text, same, ◌>>=◌}
 use Rattle.sq_reader.specs.declared.forms.Struct.{Struct}
 use Rattle.sq_reader.specs.declared.forms.Targets.{Targets}

@@ -1,8 +1,8 @@
 -- The forms of which a written Go file is made. Each is a whole number of lines.
 use Rattle.std.specs.Prelude.{Bool, false, List, [], codes, if◌then◌else◌, Option, Some, None, unwrap_or}
 use Rattle.std.specs.Option.{option_map_or}
-use Rattle.sq_core.specs.declared.signature.ShownField.{ShownField}
-use Rattle.sq_core.specs.declared.signature.Command.TheVariants.{Many}
+use Rattle.sq_shown.specs.declared.signature.ShownField.{ShownField}
+use Rattle.sq_shown.specs.declared.signature.Command.TheVariants.{Many}
 use Rattle.sq_reader.specs.Parts.{Text, Part, ◌>>=◌, same, behind, before, run_at, many, not_none, raw_at}
 use Rattle.sq_reader.specs.declared.parts.Class.TheVariants.{Word, Spelling, Path}
 use Rattle.sq_reader.specs.declared.forms.Struct.{Struct}

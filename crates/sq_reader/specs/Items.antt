@@ -3,7 +3,7 @@ use Rattle.std.specs.Prelude.{ℕ, zero, suc, ◌==◌, ◌||◌, ◌&&◌, not,
 use Rattle.std.specs.List.{list_any, list_all, starts_with, ends_with}
 use Rattle.std.specs.Option.{option_map_or}
 use Rattle.std.specs.Char.{is_ascii_uppercase}
-use Rattle.sq_core.specs.declared.signature.ShownField.{ShownField}
+use Rattle.sq_shown.specs.declared.signature.ShownField.{ShownField}
 use Rattle.sq_reader.specs.Parts.{Text, same, behind, before, run, after_run}
 use Rattle.sq_reader.specs.Forms.{struct_at, row_at, constant_at, method_at}
 use Rattle.sq_reader.specs.declared.parts.Class.TheVariants.{Word, Newline, Bracket}

@@ -1,15 +1,15 @@
 -- What can be written so that it is read again.
 use Rattle.std.specs.Prelude.{◌≡◌, ◌<◌, ◌&&◌, ℕ, nat_eq, Bool, true, false, List, [], ◌∷◌, ◌++◌, codes, map, flat_map, find, length, Option, Some, None, option_and_then}
 use Rattle.std.specs.List.{list_all, AllByRecursion}
-use Rattle.sq_core.specs.declared.signature.ShownField.{ShownField}
-use Rattle.sq_core.specs.declared.signature.Command.TheVariants.{Many}
-use Rattle.sq_core.specs.declared.declaration.ModelDecl.{ModelDecl}
-use Rattle.sq_core.specs.declared.declaration.QueryFile.{QueryFile}
-use Rattle.sq_core.specs.declared.declaration.QuerySig.{QuerySig}
-use Rattle.sq_core.specs.Identifiers.{constant_name}
-use Rattle.sq_core.specs.Signature.{fields, shown}
-use Rattle.sq_core.specs.Layout.{model_name, model_forms, model_of, row_type, sql_import, query_imports, query_path}
-use Rattle.sq_core.specs.Names.{has_equal, clash}
+use Rattle.sq_shown.specs.declared.signature.ShownField.{ShownField}
+use Rattle.sq_shown.specs.declared.signature.Command.TheVariants.{Many}
+use Rattle.sq_shown.specs.declared.declaration.ModelDecl.{ModelDecl}
+use Rattle.sq_shown.specs.declared.declaration.QueryFile.{QueryFile}
+use Rattle.sq_shown.specs.declared.declaration.QuerySig.{QuerySig}
+use Rattle.sq_shown.specs.Identifiers.{constant_name}
+use Rattle.sq_shown.specs.Signature.{fields, shown}
+use Rattle.sq_shown.specs.Layout.{model_name, model_forms, model_of, row_type, sql_import, query_imports, query_path}
+use Rattle.sq_shown.specs.Names.{has_equal, clash}
 use Rattle.sq_reader.specs.Items.{fields_stand, is_last_part}
 use Rattle.sq_reader.specs.Parts.{Text, allows}
 use Rattle.sq_reader.specs.declared.parts.Class.{Class}

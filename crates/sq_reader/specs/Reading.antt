@@ -3,7 +3,7 @@ use Rattle.std.specs.Prelude.{◌≡◌, ℕ, ◌+◌, ◌-◌, ◌^◌, ◌==�
 use Rattle.std.specs.List.{list_any}
 use Rattle.std.specs.Option.{option_map_or}
 use Rattle.sq_base.specs.declared.file.File.{File}
-use Rattle.sq_core.specs.declared.signature.Shown.{Shown}
+use Rattle.sq_shown.specs.declared.signature.Shown.{Shown}
 use Rattle.sq_reader.specs.Parts.{Text, same, behind}
 use Rattle.sq_reader.specs.Forms.{header, package_at, imports_at}
 use Rattle.sq_reader.specs.Items.{◌>>=◌, stands, spot, is_last_part, with_items, groups, database_items}

@@ -7,7 +7,7 @@ ghost use Rattle.sq_reader.specs.declared.parts.Class.TheVariants.{Word, Spellin
 
 use crate::parts::{Class, NoPart, before, behind, raw_of, run_of};
 use sq_base::{List, Name};
-use sq_core::{Command, ShownField};
+use sq_shown::{Command, ShownField};
 use std::alloc::{AllocError, Global};
 
 /// A struct: its name and its fields.

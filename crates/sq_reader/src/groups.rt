@@ -8,7 +8,7 @@ use crate::forms::{Constant, Method, Struct, Targets, constant_of, method_of, ro
 use crate::items::{Call, Fixed, Group, Halt, Item, Meaning, Source, Space, Spot};
 use crate::parts::{Class, NoPart, run_length};
 use sq_base::{List, Name};
-use sq_core::ShownField;
+use sq_shown::ShownField;
 use std::alloc::{AllocError, Global};
 
 /// The spot of the item at the front.

@@ -3,7 +3,7 @@ ghost use Rattle.sq_reader.specs.declared.items.Halt.TheVariants.{NoMemory};
 
 use crate::forms::{Struct, Targets};
 use sq_base::{List, Name};
-use sq_core::{Command, ShownField};
+use sq_shown::{Command, ShownField};
 use std::alloc::{AllocError, AllocFailed};
 
 /// Where an item stands: its file's number, from 0, and how many bytes are left there from its first

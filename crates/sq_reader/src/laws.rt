@@ -1,12 +1,12 @@
 //! What holds of writing and reading.
 ghost use Rattle.std.specs.Prelude.{◌≡◌, List, map};
 ghost use Rattle.sq_base.specs.declared.file.File.{File};
-ghost use Rattle.sq_core.specs.declared.declaration.ModelDecl.{ModelDecl};
-ghost use Rattle.sq_core.specs.declared.declaration.QueryFile.{QueryFile};
-ghost use Rattle.sq_core.specs.declared.declaration.QuerySig.{QuerySig};
-ghost use Rattle.sq_core.specs.declared.signature.Shown.{Shown};
-ghost use Rattle.sq_core.specs.Layout.{layout, queries_of};
-ghost use Rattle.sq_core.specs.Signature.{shown};
+ghost use Rattle.sq_shown.specs.declared.declaration.ModelDecl.{ModelDecl};
+ghost use Rattle.sq_shown.specs.declared.declaration.QueryFile.{QueryFile};
+ghost use Rattle.sq_shown.specs.declared.declaration.QuerySig.{QuerySig};
+ghost use Rattle.sq_shown.specs.declared.signature.Shown.{Shown};
+ghost use Rattle.sq_shown.specs.Layout.{layout, queries_of};
+ghost use Rattle.sq_shown.specs.Signature.{shown};
 ghost use Rattle.sq_reader.specs.Parts.{Text};
 ghost use Rattle.sq_reader.specs.Readable.{IsReadable};
 ghost use Rattle.sq_reader.specs.Reading.{Reads};

@@ -7,7 +7,7 @@ use crate::files::all_items;
 use crate::items::{Halt, Spot};
 use crate::settle::all_settled;
 use sq_base::{File, List};
-use sq_core::Shown;
+use sq_shown::Shown;
 use std::alloc::Global;
 use thiserror::Error;
 

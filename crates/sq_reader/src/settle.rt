@@ -8,7 +8,7 @@ use crate::forms::{Struct, Targets};
 use crate::items::{Call, Halt, Item, Meaning, Space};
 use crate::parts::NoPart;
 use sq_base::{List, Name};
-use sq_core::{Shown, ShownField};
+use sq_shown::{Shown, ShownField};
 use std::alloc::{AllocError, Global};
 
 /// Whether two name spaces are one.

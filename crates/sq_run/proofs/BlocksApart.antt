@@ -6,16 +6,16 @@ use Rattle.std.proofs.lemmas.List.Folds.{list_any-append}
 use Rattle.std.proofs.lemmas.Bool.{cases_Bool}
 use Rattle.std.specs.Str.{bytes_eq}
 use Rattle.sq_base.specs.declared.file.File.{File}
-use Rattle.sq_core.specs.Layout as layout
-use Rattle.sq_core.specs.Names.{has_equal, file_names}
-use Rattle.sq_core.specs.declared.declaration.ModelDecl.{ModelDecl}
-use Rattle.sq_core.specs.declared.declaration.QueryFile.{QueryFile}
-use Rattle.sq_run.specs.declared.configuration.Block.{Block}
-use Rattle.sq_run.specs.declared.configuration.Entry.{Entry}
-use Rattle.sq_run.specs.declared.outputs.Output.{Output}
+use Rattle.sq_shown.specs.Layout as layout
+use Rattle.sq_shown.specs.Names.{has_equal, file_names}
+use Rattle.sq_shown.specs.declared.declaration.ModelDecl.{ModelDecl}
+use Rattle.sq_shown.specs.declared.declaration.QueryFile.{QueryFile}
+use Rattle.sq_config.specs.declared.configuration.Block.{Block}
+use Rattle.sq_config.specs.declared.configuration.Entry.{Entry}
+use Rattle.sq_plan.specs.declared.outputs.Output.{Output}
 use Rattle.sq_run.specs.Project.{models_of, placed, output_files, written, block_files}
-use Rattle.sq_run.specs.Outs.{all_entries, same_out_after}
-use Rattle.sq_run.specs.Paths.{folder_of}
+use Rattle.sq_config.specs.Outs.{all_entries, same_out_after}
+use Rattle.sq_config.specs.Paths.{folder_of}
 use Rattle.sq_run.proofs.Models.{either_none}
 use Rattle.sq_run.proofs.FileNames.{is_slash, no_slash, names_differ, placed_differ}
 use Rattle.sq_run.proofs.Plans.{FromEntry, block_from, written_ok}

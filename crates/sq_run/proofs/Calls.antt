@@ -7,25 +7,27 @@ use Rattle.sq_base.specs.Counts.{raised_by, raised}
 use Rattle.sq_base.specs.Out.{OutState}
 use Rattle.sq_base.specs.Sink.{SinkState}
 use Rattle.sq_base.specs.declared.file.File.{File}
+use Rattle.sq_base.specs.declared.out.OutFault.{OutFault}
 use Rattle.sq_base.specs.declared.sink.SinkFault.{SinkFault}
 use Rattle.sq_base.specs.declared.sink.SinkFault.TheVariants.{Failed as ScreenFailed, Memory as WriteMemory}
-use Rattle.sq_run.specs.declared.halt.Halt.{Halt}
-use Rattle.sq_run.specs.declared.halt.Halt.TheVariants.{Usage, Refused, Missing, Failed, Memory}
-use Rattle.sq_run.specs.declared.status.Status.{Status}
-use Rattle.sq_run.specs.declared.deliver.Report.{Report}
-use Rattle.sq_run.specs.declared.deliver.PutFault.{PutFault}
-use Rattle.sq_run.specs.Asked.{Asked, Ends, Follows}
-use Rattle.sq_run.specs.Each.{Each, StopsAt}
-use Rattle.sq_run.specs.Deliver.{Put, PutFails, PutsAll, Print, PrintFails, PrintsAll, Shows, Concludes, files_of}
+use Rattle.sq_plan.specs.declared.halt.Halt.{Halt}
+use Rattle.sq_plan.specs.declared.halt.Ending.TheVariants.{Judged}
+use Rattle.sq_plan.specs.declared.halt.Halt.TheVariants.{Refused, Missing, Failed, Memory}
+use Rattle.sq_plan.specs.declared.status.Status.{Status}
+use Rattle.sq_plan.specs.declared.deliver.Report.{Report}
+use Rattle.sq_plan.specs.declared.deliver.PutFault.{PutFault}
+use Rattle.sq_plan.specs.Asked.{Asked, Ends, Follows}
+use Rattle.sq_plan.specs.Each.{Each, StopsAt}
+use Rattle.sq_plan.specs.Deliver.{Put, PutFails, PutsAll, Print, PrintFails, PrintsAll, Shows, Concludes, files_of}
 use Rattle.sq_run.specs.Printed.{WithinWrites}
 use Rattle.sq_run.specs.Project.{is_command, asked_by}
 use Rattle.sq_run.specs.Run.{Outside, IsRun, AtMost, WithinCalls, paths_asked, files_asked}
-use Rattle.sq_run.proofs.Causes.{by_words, asked_is, nothing_put}
-use Rattle.sq_run.proofs.Steps.{if_told, calls_joined, calls_none}
+use Rattle.sq_run.proofs.Causes.{Commanded, by_words, asked_is, nothing_put}
+use Rattle.sq_plan.proofs.Steps.{if_told, calls_joined, calls_none}
 
 -- steps that are calls are counted
 module _ {S X : Type 0} (calls : S → Option ℕ) (Step : X → S → S → Type 0) (counts : (x : X) (s t : S) → Step x s t → calls t ≡ option_map raised (calls s)) where
-  each_calls : (xs : List X) (old new : S) → Each Step xs old new → calls new ≡ option_map (raised_by (length xs)) (calls old)
+  pub each_calls : (xs : List X) (old new : S) → Each Step xs old new → calls new ≡ option_map (raised_by (length xs)) (calls old)
   each_calls [] old new same = ap calls same ∙ sym (calls_none (calls old))
   each_calls (x ∷ xs) old new steps =
       each_calls xs steps.0 new steps.2 ∙ ap (option_map (raised_by (length xs))) (counts x old steps.0 steps.1) ∙ calls_joined 1 (length xs) (calls old) ∙ ap (λ (n : ℕ). option_map (raised_by n) (calls old)) (omega arith)
@@ -63,7 +65,6 @@ shows_within report old new status shows = prints_within shows.printed report ol
 -- the calls that a part has made are no more than it asks
 made_within : {A : Type 0} (asked : Asked A) (made : List (List ℕ)) (r : Result A Halt) → Ends asked made r → length made ≤ length asked.paths
 made_within asked made (Ok value) ends = omega (arith, ap length ends.1)
-made_within asked made (Err Usage) ends = absurd ends
 made_within asked made (Err (Refused findings)) ends = omega (arith, ap length ends.1)
 made_within asked made (Err (Missing path)) ends = omega (arith, ap length ends.1)
 made_within asked made (Err (Failed path)) ends = omega (arith, ap length ends.0.1, length-append made ends.0.0)
@@ -77,7 +78,7 @@ none_made : (most : ℕ) (before now : Option ℕ) → now ≡ before → AtMost
 none_made most before now same = (0, omega arith, same ∙ sym (calls_none before))
 
 module _ (words : List (List ℕ)) (before after : Outside) where
-  puts_asked : (ending : Result (List File) Halt) (put : Result (Unit {0}) PutFault) → is_command words ≡ true → Follows (asked_by words) before.tree after.tree ending → PutsAll (files_of ending) before.out after.out put
+  puts_asked : (ending : Result (List File) Halt) (put : Result (Unit {0}) PutFault) → is_command words ≡ true → Follows (asked_by words) before.tree after.tree ending → PutsAll (files_of (Judged ending)) before.out after.out put
       → IfSome before.tree.files (λ held. AtMost (length (files_asked words held)) before.out.calls after.out.calls)
   puts_asked (Ok files) put command follows puts =
       IfSome_then before.tree.files follows.asked (λ held answered. subst (λ (fs : List File). AtMost (length fs) before.out.calls after.out.calls) (asked_is words held files command answered.ends.0) (puts_within files put before.out after.out puts))
@@ -85,15 +86,18 @@ module _ (words : List (List ℕ)) (before after : Outside) where
       if_told before.tree.files (λ held. none_made (length (files_asked words held)) before.out.calls after.out.calls (ap out_calls (nothing_put put before.out after.out puts)))
 
 pub within : {words : List (List ℕ)} {before after : Outside} {status : Status} → IsRun words before after status → WithinCalls words before after
-within {words = words} {before = before} {after = after} r = by_words (WithinCalls words before after) r
-    (λ command follows. record {
-      tree = IfSome_then before.tree.files follows.asked (λ held answered.
-          rw command (length answered.made, made_within (asked_by words held) answered.made r.ending answered.ends, answered.calls));
-      out = puts_asked words before after r.ending r.put command follows r.putting;
+within {words = words} {before = before} {after = after} {status = status} r = by_words (WithinCalls words before after) r
+    (λ (c : Commanded words before after status). record {
+      tree = IfSome_then before.tree.files c.follows.asked (λ held answered.
+          rw c.command (length answered.made, made_within (asked_by words held) answered.made c.result answered.ends, answered.calls));
+      out = puts_asked words before after c.result c.put c.command c.follows c.putting;
     })
-    (λ other same usage.
-    let puts = subst (λ (e : Result (List File) Halt). PutsAll (files_of e) before.out after.out r.put) usage r.putting in
-    record {
-      tree = if_told before.tree.files (λ held. none_made (length (paths_asked words held)) before.tree.calls after.tree.calls (ap (λ t. t.calls) same));
-      out = if_told before.tree.files (λ held. none_made (length (files_asked words held)) before.out.calls after.out.calls (ap out_calls (nothing_put r.put before.out after.out puts)));
+    (λ u. record {
+      tree = if_told before.tree.files (λ held. none_made (length (paths_asked words held)) before.tree.calls after.tree.calls (ap (λ t. t.calls) u.same));
+      out = if_told before.tree.files (λ held. none_made (length (files_asked words held)) before.out.calls after.out.calls (ap out_calls (nothing_put u.put before.out after.out u.putting)));
     })
+
+-- a put that failed was the last call, and came after one for each file before it
+pub stopped_calls : (fault : OutFault) (files : List File) (at : ℕ) (old new : OutState) (stops : StopsAt Put (PutFails fault) files at old new) → new.calls ≡ option_map (raised_by (length stops.before + 1)) old.calls
+stopped_calls fault files at old new stops =
+    stops.last.calls ∙ ap (option_map raised) (each_calls out_calls Put (λ x s t step. step.calls) stops.before old stops.mid stops.steps) ∙ calls_joined (length stops.before) 1 old.calls

@@ -13,20 +13,23 @@ use Rattle.sq_base.specs.declared.out.OutFault.{OutFault}
 use Rattle.sq_base.specs.declared.out.OutFault.TheVariants.{Failed as PutFailed, Memory as PutMemory}
 use Rattle.sq_base.specs.declared.sink.SinkFault.{SinkFault}
 use Rattle.sq_base.specs.declared.sink.SinkFault.TheVariants.{Failed as ScreenFailed, Memory as WriteMemory}
-use Rattle.sq_run.specs.declared.halt.Finding.{Finding}
-use Rattle.sq_run.specs.declared.halt.Halt.{Halt}
-use Rattle.sq_run.specs.declared.halt.Halt.TheVariants.{Usage as IsUsage, Refused as IsRefused, Missing as HaltMissing, Failed as HaltFailed, Memory as HaltMemory}
-use Rattle.sq_run.specs.declared.status.Status.{Status}
-use Rattle.sq_run.specs.declared.status.Status.TheVariants.{Done, Refused, Usage, ReadFault, WriteFault, Memory, Missing}
-use Rattle.sq_run.specs.declared.deliver.Report.{Report}
-use Rattle.sq_run.specs.declared.deliver.PutFault.{PutFault}
-use Rattle.sq_run.specs.Asked.{Follows, Ends, CountsFault}
-use Rattle.sq_run.proofs.Steps.{if_told}
-use Rattle.sq_run.specs.Each.{Each, StopsAt}
-use Rattle.sq_run.specs.Status.{unless_screen_failed}
-use Rattle.sq_run.specs.Lines.{finding_line, usage_lines}
-use Rattle.sq_run.specs.Deliver.{Put, PutFails, Print, PutsAll, PrintsAll, Concludes, files_of, unwritten_line, report, put_failed, report_of}
-use Rattle.sq_run.specs.Project.{is_command, asked_by, Judging}
+use Rattle.sq_plan.specs.declared.halt.Finding.{Finding}
+use Rattle.sq_plan.specs.declared.halt.Halt.{Halt}
+use Rattle.sq_config.specs.declared.command_line.Task.TheVariants.{Compile}
+use Rattle.sq_plan.specs.declared.halt.Ending.{Ending}
+use Rattle.sq_plan.specs.declared.halt.Ending.TheVariants.{Usage as IsUsage, Judged}
+use Rattle.sq_plan.specs.declared.halt.Halt.TheVariants.{Refused as IsRefused, Missing as HaltMissing, Failed as HaltFailed, Memory as HaltMemory}
+use Rattle.sq_plan.specs.declared.status.Status.{Status}
+use Rattle.sq_plan.specs.declared.status.Status.TheVariants.{Done, Refused, Usage, ReadFault, WriteFault, Memory, Missing}
+use Rattle.sq_plan.specs.declared.deliver.Report.{Report}
+use Rattle.sq_plan.specs.declared.deliver.PutFault.{PutFault}
+use Rattle.sq_plan.specs.Asked.{Follows, Ends, CountsFault}
+use Rattle.sq_plan.proofs.Steps.{if_told}
+use Rattle.sq_plan.specs.Each.{Each, StopsAt}
+use Rattle.sq_plan.specs.Status.{unless_screen_failed}
+use Rattle.sq_plan.specs.Lines.{finding_line, usage_lines}
+use Rattle.sq_plan.specs.Deliver.{Put, PutFails, Print, PutsAll, PrintsAll, Concludes, files_of, unwritten_line, report, put_failed, report_of}
+use Rattle.sq_run.specs.Project.{is_command, task_asked, asked_by, Judging}
 use Rattle.sq_run.specs.Run.{Outside, Tells, IsRun, Cause, HasFiles, Says, WriteFailed, files_asked, Unless, Unless.as_wanted, Unless.no_memory, Unless.screen_failed, Owes, IsOwed}
 
 -- steps that keep a count keep it together
@@ -60,14 +63,14 @@ put_status PutFailed = WriteFault
 put_status PutMemory = Memory
 
 -- the status that a run is to have
-abbrev pub intended : Result (List File) Halt → Result (Unit {0}) PutFault → Status
-intended (Ok files) (Ok done) = Done
-intended (Ok files) (Err stop) = put_status stop.fault
-intended (Err IsUsage) put = Usage
-intended (Err (IsRefused findings)) put = Refused
-intended (Err (HaltMissing path)) put = Missing
-intended (Err (HaltFailed path)) put = ReadFault
-intended (Err HaltMemory) put = Memory
+abbrev pub intended : Ending → Result (Unit {0}) PutFault → Status
+intended IsUsage put = Usage
+intended (Judged (Ok files)) (Ok done) = Done
+intended (Judged (Ok files)) (Err stop) = put_status stop.fault
+intended (Judged (Err (IsRefused findings))) put = Refused
+intended (Judged (Err (HaltMissing path))) put = Missing
+intended (Judged (Err (HaltFailed path))) put = ReadFault
+intended (Judged (Err HaltMemory)) put = Memory
 
 -- the lines of a report, none where there is no report
 abbrev pub lines_of : Option Report → List (List ℕ)
@@ -83,16 +86,16 @@ report_status files at PutFailed said is = failed_status (slice_get files at) sa
     failed_status (Some file) said is = ap (λ (r : Report). r.status) (sym (same_Some _ _ is))
 report_status files at PutMemory said is = absurd (cc is)
 
-intended_is : (ending : Result (List File) Halt) (put : Result (Unit {0}) PutFault) (said : Report) → report_of ending put ≡ Some said → said.status ≡ intended ending put
-intended_is (Ok files) (Ok done) said is = ap (λ (r : Report). r.status) (sym (same_Some _ _ is))
-intended_is (Ok files) (Err stop) said is = report_status files stop.at stop.fault said is
-intended_is (Err IsUsage) put said is = ap (λ (r : Report). r.status) (sym (same_Some _ _ is))
-intended_is (Err (IsRefused findings)) put said is = ap (λ (r : Report). r.status) (sym (same_Some _ _ is))
-intended_is (Err (HaltMissing path)) put said is = ap (λ (r : Report). r.status) (sym (same_Some _ _ is))
-intended_is (Err (HaltFailed path)) put said is = ap (λ (r : Report). r.status) (sym (same_Some _ _ is))
-intended_is (Err HaltMemory) put said is = absurd (cc is)
+intended_is : (ending : Ending) (put : Result (Unit {0}) PutFault) (said : Report) → report_of ending put ≡ Some said → said.status ≡ intended ending put
+intended_is IsUsage put said is = ap (λ (r : Report). r.status) (sym (same_Some _ _ is))
+intended_is (Judged (Ok files)) (Ok done) said is = ap (λ (r : Report). r.status) (sym (same_Some _ _ is))
+intended_is (Judged (Ok files)) (Err stop) said is = report_status files stop.at stop.fault said is
+intended_is (Judged (Err (IsRefused findings))) put said is = ap (λ (r : Report). r.status) (sym (same_Some _ _ is))
+intended_is (Judged (Err (HaltMissing path))) put said is = ap (λ (r : Report). r.status) (sym (same_Some _ _ is))
+intended_is (Judged (Err (HaltFailed path))) put said is = ap (λ (r : Report). r.status) (sym (same_Some _ _ is))
+intended_is (Judged (Err HaltMemory)) put said is = absurd (cc is)
 
-pub run_reached : (ending : Result (List File) Halt) (put : Result (Unit {0}) PutFault) (old new : SinkState) (status : Status) → Tells (report_of ending put) old new status
+pub run_reached : (ending : Ending) (put : Result (Unit {0}) PutFault) (old new : SinkState) (status : Status) → Tells (report_of ending put) old new status
     → Reached (intended ending put) (lines_of (report_of ending put)) old.faults new.faults status
 run_reached ending put old new status (inl told) =
     rw (← intended_is ending put told.0 told.1, told.1) (reached told.2.printed told.0 old told.2.mid new status told.2.lines told.2.conclusion)
@@ -119,8 +122,8 @@ usage_says words held none = rw none (refl, refl)
 
 module _ (words : List (List ℕ)) (before after : Outside) (status : Status) where
   -- the cause of an answer to a command
-  caused_by : (ending : Result (List File) Halt) (put : Result (Unit {0}) PutFault) → is_command words ≡ true → Follows (asked_by words) before.tree after.tree ending → PutsAll (files_of ending) before.out after.out put
-      → Reached (intended ending put) (lines_of (report_of ending put)) before.screen.faults after.screen.faults status → Cause words before after status
+  caused_by : (ending : Result (List File) Halt) (put : Result (Unit {0}) PutFault) → is_command words ≡ true → Follows (asked_by words) before.tree after.tree ending → PutsAll (files_of (Judged ending)) before.out after.out put
+      → Reached (intended (Judged ending) put) (lines_of (report_of (Judged ending) put)) before.screen.faults after.screen.faults status → Cause words before after status
   caused_by (Ok files) (Ok done) command follows puts end =
       by_status (Cause words before after) end
       (λ same. (
@@ -140,7 +143,6 @@ module _ (words : List (List ℕ)) (before after : Outside) (status : Status) wh
           let has : HasFiles words before = IfSome_then before.tree.files follows.asked (λ held answered none. some_item files stops.before stops.left stops.item stops.split (asked_is words held files command answered.ends.0 ∙ none)) in
           by_status (Cause words before after) end (λ same. inl (rose, has)) (λ failed some. inl (rose, has)) tt
       put_stopped PutMemory lines stops end = by_status (Cause words before after) end (λ same. tt) (λ failed some. tt) tt
-  caused_by (Err IsUsage) put command follows puts end = absurd follows.faults
   caused_by (Err (IsRefused findings)) put command follows puts end =
       by_status (Cause words before after) end
       (λ same. (
@@ -155,28 +157,53 @@ module _ (words : List (List ℕ)) (before after : Outside) (status : Status) wh
   caused_by (Err (HaltFailed path)) put command follows puts end = by_status (Cause words before after) end (λ same. follows.faults) (λ failed some. follows.faults) tt
   caused_by (Err HaltMemory) put command follows puts end = by_status (Cause words before after) end (λ same. tt) (λ failed some. tt) tt
 
-  -- and to other words
-  usage_by : (ending : Result (List File) Halt) (put : Result (Unit {0}) PutFault) → is_command words ≡ false → ending ≡ Err IsUsage
-      → Reached (intended ending put) (lines_of (report_of ending put)) before.screen.faults after.screen.faults status → Cause words before after status
-  usage_by ending put none is end =
-      by_status (Cause words before after) (subst (λ (e : Result (List File) Halt). Reached (intended e put) (lines_of (report_of e put)) before.screen.faults after.screen.faults status) is end) (λ same. none)
-      (λ rose some. inr (rose, if_told before.tree.files (λ held. (Usage, usage_lines, usage_says words held none, some)))) tt
+-- a run of a command
+pub record Commanded (words : List (List ℕ)) (before after : Outside) (status : Status) : Type 0 where
+  pub result : Result (List File) Halt
+  pub put : Result (Unit {0}) PutFault
+  pub command : is_command words ≡ true
+  pub follows : Follows (asked_by words) before.tree after.tree result
+  pub compiling : task_asked words ≡ Some Compile → files_of (Judged result) ≡ []
+  pub putting : PutsAll (files_of (Judged result)) before.out after.out put
+  pub telling : Tells (report_of (Judged result) put) before.screen after.screen status
+
+-- a run of words that are no command
+pub record Uncommanded (words : List (List ℕ)) (before after : Outside) (status : Status) : Type 0 where
+  pub put : Result (Unit {0}) PutFault
+  pub other : is_command words ≡ false
+  pub same : after.tree ≡ before.tree
+  pub putting : PutsAll [] before.out after.out put
+  pub telling : Tells (report_of IsUsage put) before.screen after.screen status
 
 -- by whether the words are a command
-pub by_words : {words : List (List ℕ)} {before after : Outside} {status : Status} (Q : Type 0) (r : IsRun words before after status)
-    → (is_command words ≡ true → Follows (asked_by words) before.tree after.tree r.ending → Q) → (is_command words ≡ false → after.tree ≡ before.tree → r.ending ≡ Err IsUsage → Q) → Q
-by_words {words = words} {before = before} {after = after} Q r commanded other =
-    elim (cases_Bool (is_command words)) [
-      | inl is_command ↦ commanded is_command (subst (λ (b : Bool). Judging words b before.tree after.tree r.ending) is_command r.judging)
-      | inr is_other ↦ let judged = subst (λ (b : Bool). Judging words b before.tree after.tree r.ending) is_other r.judging in other is_other judged.0 judged.1
-    ]
+module _ {words : List (List ℕ)} {before after : Outside} {status : Status} (Q : Type 0) where
+  by_ending : (b : Bool) → is_command words ≡ b → (ending : Ending) (put : Result (Unit {0}) PutFault) → Judging words b before.tree after.tree ending → (task_asked words ≡ Some Compile → files_of ending ≡ [])
+      → PutsAll (files_of ending) before.out after.out put → Tells (report_of ending put) before.screen after.screen status
+      → (Commanded words before after status → Q) → (Uncommanded words before after status → Q) → Q
+  by_ending true is (Judged result) put judged compiles puts tells commanded other =
+      commanded (record { result = result; put = put; command = is; follows = judged; compiling = compiles; putting = puts; telling = tells })
+  by_ending true is IsUsage put judged compiles puts tells commanded other = absurd judged
+  by_ending false is (Judged result) put judged compiles puts tells commanded other = absurd judged
+  by_ending false is IsUsage put judged compiles puts tells commanded other = other (record { put = put; other = is; same = judged; putting = puts; telling = tells })
+
+  pub by_words : IsRun words before after status → (Commanded words before after status → Q) → (Uncommanded words before after status → Q) → Q
+  by_words r commanded other = by_ending (is_command words) refl r.ending r.put r.judging r.compiling r.putting r.telling commanded other
+
+-- what a run of a command has reached
+pub commanded_reached : {words : List (List ℕ)} {before after : Outside} {status : Status} (r : Commanded words before after status)
+    → Reached (intended (Judged r.result) r.put) (lines_of (report_of (Judged r.result) r.put)) before.screen.faults after.screen.faults status
+commanded_reached {before = before} {after = after} {status = status} r = run_reached (Judged r.result) r.put before.screen after.screen status r.telling
+
+-- and one of other words
+pub uncommanded_reached : {words : List (List ℕ)} {before after : Outside} {status : Status} (r : Uncommanded words before after status)
+    → Reached Usage usage_lines before.screen.faults after.screen.faults status
+uncommanded_reached {before = before} {after = after} {status = status} r = run_reached IsUsage r.put before.screen after.screen status r.telling
 
 pub caused : {words : List (List ℕ)} {before after : Outside} {status : Status} → IsRun words before after status → Cause words before after status
-caused {words = words} {before = before} {after = after} {status = status} r =
-    let end = run_reached r.ending r.put before.screen after.screen status r.telling in
-    by_words (Cause words before after status) r
-    (λ command follows. caused_by words before after status r.ending r.put command follows r.putting end)
-    (λ other same is. usage_by words before after status r.ending r.put other is end)
+caused {words = words} {before = before} {after = after} {status = status} r = by_words (Cause words before after status) r
+    (λ c. caused_by words before after status c.result c.put c.command c.follows c.putting (commanded_reached c))
+    (λ u. by_status (Cause words before after) (uncommanded_reached u) (λ same. u.other)
+    (λ rose some. inr (rose, if_told before.tree.files (λ held. (Usage, usage_lines, usage_says words held u.other, some)))) tt)
 
 -- memory may be wanting whatever is owed
 memory_owed : (answer : Option (Result (List File) (List Finding))) (before after : Outside) → Owes answer before after Memory
@@ -187,7 +214,7 @@ memory_owed (Some (Ok files)) before after = inl (no_memory refl)
 -- what is owed for what a command comes to
 owed_by : (answer : Option (Result (List File) (List Finding))) (paths made : List (List ℕ)) (before after : Outside) (status : Status) (ending : Result (List File) Halt) (put : Result (Unit {0}) PutFault)
     → Ends (record { paths = paths; answer = answer }) made ending → CountsFault ending before.tree.faults after.tree.faults → ¬ Rose before.tree.faults after.tree.faults
-    → PutsAll (files_of ending) before.out after.out put → Reached (intended ending put) (lines_of (report_of ending put)) before.screen.faults after.screen.faults status → Owes answer before after status
+    → PutsAll (files_of (Judged ending)) before.out after.out put → Reached (intended (Judged ending) put) (lines_of (report_of (Judged ending) put)) before.screen.faults after.screen.faults status → Owes answer before after status
 owed_by answer paths made before after status (Ok files) (Ok done) ends counts quiet puts end =
     rw ends.0 (by_status (Owes (Some (Ok files)) before after) end (λ same. inl (as_wanted refl)) (λ rose some. inl (screen_failed refl rose)) (inl (no_memory refl)))
 owed_by answer paths made before after status (Ok files) (Err stop) ends counts quiet puts end = rw ends.0 (put_stopped stop.fault (lines_of (put_failed files stop.at stop.fault)) puts end)
@@ -198,7 +225,6 @@ owed_by answer paths made before after status (Ok files) (Err stop) ends counts 
         let rose : Rose before.out.faults after.out.faults = omega (arith, kept, stops.last.faults) in
         by_status (Owes (Some (Ok files)) before after) end (λ same. inr (refl, rose)) (λ failed some. inr (refl, rose)) (inl (no_memory refl))
     put_stopped PutMemory lines stops end = by_status (Owes (Some (Ok files)) before after) end (λ same. inl (no_memory refl)) (λ failed some. inl (no_memory refl)) (inl (no_memory refl))
-owed_by answer paths made before after status (Err IsUsage) put ends counts quiet puts end = absurd ends
 owed_by answer paths made before after status (Err (IsRefused findings)) put ends counts quiet puts end =
     rw ends.0 (by_status (Owes (Some (Err findings)) before after) end (λ same. as_wanted refl) (λ rose some. screen_failed refl rose) (no_memory refl))
 owed_by answer paths made before after status (Err (HaltMissing path)) put ends counts quiet puts end =
@@ -207,11 +233,8 @@ owed_by answer paths made before after status (Err (HaltFailed path)) put ends c
 owed_by answer paths made before after status (Err HaltMemory) put ends counts quiet puts end =
     by_status (Owes answer before after) end (λ same. memory_owed answer before after) (λ rose some. memory_owed answer before after) (memory_owed answer before after)
 
-usage_owed : (before after : Outside) (status : Status) (ending : Result (List File) Halt) (put : Result (Unit {0}) PutFault) → ending ≡ Err IsUsage → Reached (intended ending put) (lines_of (report_of ending put)) before.screen.faults after.screen.faults status
-    → Unless Usage before after status
-usage_owed before after status ending put is end =
-    by_status (Unless Usage before after) (subst (λ (e : Result (List File) Halt). Reached (intended e put) (lines_of (report_of e put)) before.screen.faults after.screen.faults status) is end)
-    (λ same. as_wanted refl) (λ rose some. screen_failed refl rose) (no_memory refl)
+usage_owed : (before after : Outside) (status : Status) → Reached Usage usage_lines before.screen.faults after.screen.faults status → Unless Usage before after status
+usage_owed before after status end = by_status (Unless Usage before after) end (λ same. as_wanted refl) (λ rose some. screen_failed refl rose) (no_memory refl)
 
 -- where there is no file, nothing is put
 pub nothing_put : (put : Result (Unit {0}) PutFault) (old new : OutState) → PutsAll [] old new put → new ≡ old
@@ -236,31 +259,39 @@ module _ (before after : Outside) where
   none_greater out screen (inl greater) = omega arith
   none_greater out screen (inr greater) = omega arith
 
-  told_halt : (halt : Halt) (put : Result (Unit {0}) PutFault) (lines : List (List ℕ)) (status : Status) → after.out ≡ before.out → Reached (intended (Err halt) put) lines before.screen.faults after.screen.faults status → Told status
-  told_halt IsUsage put lines status kept end =
-      by_status Told end (λ same failed a b c. absurd (none_greater (ap (λ (s : OutState). s.faults) kept) same failed)) (λ rose some failed a b c. refl) (λ failed a b c. absurd (c refl))
+  told_halt : (halt : Halt) (put : Result (Unit {0}) PutFault) (lines : List (List ℕ)) (status : Status) → after.out ≡ before.out → Reached (intended (Judged (Err halt)) put) lines before.screen.faults after.screen.faults status → Told status
   told_halt (IsRefused findings) put lines status kept end =
       by_status Told end (λ same failed a b c. absurd (none_greater (ap (λ (s : OutState). s.faults) kept) same failed)) (λ rose some failed a b c. refl) (λ failed a b c. absurd (c refl))
   told_halt (HaltMissing path) put lines status kept end = by_status Told end (λ same failed a b c. absurd (a refl)) (λ rose some failed a b c. absurd (a refl)) (λ failed a b c. absurd (c refl))
   told_halt (HaltFailed path) put lines status kept end = by_status Told end (λ same failed a b c. absurd (b refl)) (λ rose some failed a b c. absurd (b refl)) (λ failed a b c. absurd (c refl))
   told_halt HaltMemory put lines status kept end = by_status Told end (λ same failed a b c. absurd (c refl)) (λ rose some failed a b c. absurd (c refl)) (λ failed a b c. absurd (c refl))
 
-  told_write : (ending : Result (List File) Halt) (put : Result (Unit {0}) PutFault) (lines : List (List ℕ)) (status : Status) → PutsAll (files_of ending) before.out after.out put
-      → Reached (intended ending put) lines before.screen.faults after.screen.faults status → Told status
+  told_write : (ending : Result (List File) Halt) (put : Result (Unit {0}) PutFault) (lines : List (List ℕ)) (status : Status) → PutsAll (files_of (Judged ending)) before.out after.out put
+      → Reached (intended (Judged ending) put) lines before.screen.faults after.screen.faults status → Told status
   told_write (Ok files) (Ok done) lines status puts end =
       by_status Told end (λ same failed a b c. absurd (none_greater (each_keeps (λ (s : OutState). s.faults) Put (λ x s t step. step.faults) files before.out after.out puts) same failed))
       (λ rose some failed a b c. refl) (λ failed a b c. absurd (c refl))
   told_write (Ok files) (Err stop) lines status puts end = told_put stop.fault lines status end
   told_write (Err halt) put lines status puts end = told_halt halt put lines status (nothing_put put before.out after.out puts) end
 
+  told_usage : (lines : List (List ℕ)) (status : Status) → after.out ≡ before.out → Reached Usage lines before.screen.faults after.screen.faults status → Told status
+  told_usage lines status kept end =
+      by_status Told end (λ same failed a b c. absurd (none_greater (ap (λ (s : OutState). s.faults) kept) same failed)) (λ rose some failed a b c. refl) (λ failed a b c. absurd (c refl))
+
 pub owed : {words : List (List ℕ)} {before after : Outside} {status : Status} → IsRun words before after status → IsOwed words before after status
-owed {words = words} {before = before} {after = after} {status = status} r =
-    let end = run_reached r.ending r.put before.screen after.screen status r.telling in
-    record {
-      usage = λ none. by_words (Unless Usage before after status) r (λ command follows. absurd (cc (none, command))) (λ other same is. usage_owed before after status r.ending r.put is end);
-      project = λ command quiet. by_words (IfSome before.tree.files (λ files. Owes (asked_by words files).answer before after status)) r
-          (λ _ follows. IfSome_then before.tree.files follows.asked (λ files answered.
-          owed_by (asked_by words files).answer (asked_by words files).paths answered.made before after status r.ending r.put answered.ends follows.faults quiet r.putting end))
-          (λ other same is. absurd (cc (command, other)));
-      write = told_write before after r.ending r.put (lines_of (report_of r.ending r.put)) status r.putting end;
-    }
+owed {words = words} {before = before} {after = after} {status = status} r = by_words (IsOwed words before after status) r
+    (λ c. record {
+      usage = λ none. absurd (cc (none, c.command));
+      project = λ command quiet. IfSome_then before.tree.files c.follows.asked (λ files answered.
+          owed_by (asked_by words files).answer (asked_by words files).paths answered.made before after status c.result c.put answered.ends c.follows.faults quiet c.putting (commanded_reached c));
+      write = told_write before after c.result c.put (lines_of (report_of (Judged c.result) c.put)) status c.putting (commanded_reached c);
+    })
+    (λ u. record {
+      usage = λ none. usage_owed before after status (uncommanded_reached u);
+      project = λ command quiet. absurd (cc (command, u.other));
+      write = told_usage before after usage_lines status (nothing_put u.put before.out after.out u.putting) (uncommanded_reached u);
+    })
+
+-- `compile` puts nothing
+pub compiled : {words : List (List ℕ)} {before after : Outside} {status : Status} → IsRun words before after status → task_asked words ≡ Some Compile → after.out ≡ before.out
+compiled {before = before} {after = after} r compiles = nothing_put r.put before.out after.out (subst (λ (fs : List File). PutsAll fs before.out after.out r.put) (r.compiling compiles) r.putting)

@@ -8,10 +8,10 @@ use Rattle.std.proofs.lemmas.List.{take-append-drop, append_cancel_left}
 use Rattle.std.proofs.lemmas.List.Folds.{list_any-append}
 use Rattle.std.proofs.lemmas.Slice.Eq.{bytes_eq-Decides}
 use Rattle.sq_base.specs.declared.file.File.{File}
-use Rattle.sq_core.specs.Layout.{query_path, queries_of}
-use Rattle.sq_core.specs.Names.{clash, has_equal, top_level, methods, file_names}
-use Rattle.sq_core.specs.declared.declaration.ModelDecl.{ModelDecl}
-use Rattle.sq_core.specs.declared.declaration.QueryFile.{QueryFile}
+use Rattle.sq_shown.specs.Layout.{query_path, queries_of}
+use Rattle.sq_shown.specs.Names.{clash, has_equal, top_level, methods, file_names}
+use Rattle.sq_shown.specs.declared.declaration.ModelDecl.{ModelDecl}
+use Rattle.sq_shown.specs.declared.declaration.QueryFile.{QueryFile}
 use Rattle.sq_reader.specs.Items.{is_empty, is_last_part}
 use Rattle.sq_reader.specs.Parts.{same}
 use Rattle.sq_run.specs.Project.{file_name, placed}

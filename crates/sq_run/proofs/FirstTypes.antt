@@ -1,5 +1,6 @@
 -- The types whose forms are built, and what is judged over tables that have them.
-use Rattle.std.proofs.Common.{◌≡◌, ◌⊎◌, ℕ, zero, suc, ◌&&◌, not, Bool, true, false, List, [], ◌∷◌, ◌++◌, Option, None, Some, Result, Ok, Err, refl, subst, inl, inr, slice_get}
+use Rattle.std.proofs.Common.{◌≡◌, ◌⊎◌, ℕ, zero, suc, ◌&&◌, not, Bool, true, false, List, [], ◌∷◌, ◌++◌, Option, None, Some, Result, Ok, Err, refl, subst, sym, inl, inr, slice_get}
+use Rattle.sq_base.specs.declared.code.Code.TheVariants as code
 use Rattle.std.specs.Prelude.{codes}
 use Rattle.std.specs.Option.{option_map}
 use Rattle.std.specs.List.{AllByRecursion, AllZip, list_all}
@@ -12,11 +13,14 @@ use Rattle.sq_catalog.specs.Catalogue.{placed, placed_column, place_of_column}
 use Rattle.sq_catalog.specs.declared.table.Column.{Column as TableColumn}
 use Rattle.sq_catalog.specs.declared.table.Table.{Table}
 use Rattle.sq_core.specs.declared.node.Node.{Node}
-use Rattle.sq_core.specs.declared.signature.Output.{Output}
-use Rattle.sq_core.specs.Forms.{IsPrinted}
-use Rattle.sq_core.specs.Identifiers.{numbered, pascal}
-use Rattle.sq_core.specs.Signature.{field, fields_after, shown_columns}
-use Rattle.sq_core.specs.Sound.{Prints, ShowsColumn}
+use Rattle.sq_shown.specs.declared.signature.Output.{Output}
+use Rattle.sq_catalog.specs.Contents.{Contents}
+use Rattle.sq_shown.specs.Forms.{IsPrinted, printed_form}
+use Rattle.sq_shown.specs.declared.signature.Language.TheVariants.{Go}
+use Rattle.sq_shown.specs.Identifiers.{numbered, pascal}
+use Rattle.sq_shown.specs.Signature.{field, fields_after, shown_columns}
+use Rattle.sq_core.specs.Columns.{ArePrinted, Prints, ShowsColumn}
+use Rattle.sq_core.specs.Forms.{printed_text}
 use Rattle.sq_run.specs.declared.statements.Named.{Named}
 use Rattle.sq_run.specs.Judged.{judged_names, after_these, node_of, output_of, unknown}
 use Rattle.sq_run.specs.Schema.{is_first, is_first_scalar, has_first_types}
@@ -120,10 +124,10 @@ names_show table (named ∷ names) r first same = by_column (λ l. names_show ta
     by_later place c there (Ok l) all same =
         let later = all l refl in
         subst (ShowsNames table) (same_ok _ _ _ refl same)
-        (record { shows = ((refl, refl, rw there (refl, refl)), later.shows); types = (at_place HasFirst table.columns place c first there, later.types) })
+        (record { shows = (rw there (refl, refl, refl, refl), later.shows); types = (at_place HasFirst table.columns place c first there, later.types) })
 
     by_column : ((l : List Node × List Output) → judged_names table names ≡ Ok l → ShowsNames table l) → (found : Option (ℕ × TableColumn)) → placed_column table named.name ≡ found
-        → ◌≡◌ {A = Result (List Node × List Output) Refusal} (elim found [ None ↦ Err (unknown 11 named) | Some c ↦ after_these (node_of c.0 c.1 ∷ []) (output_of c.1 ∷ []) (judged_names table names) ]) (Ok r) → ShowsNames table r
+        → ◌≡◌ {A = Result (List Node × List Output) Refusal} (elim found [ None ↦ Err (unknown code.UnknownColumn named) | Some c ↦ after_these (node_of c.0 c.1 ∷ []) (output_of c.1 ∷ []) (judged_names table names) ]) (Ok r) → ShowsNames table r
     by_column all None there same = absurd (cc same)
     by_column all (Some c) there same = by_later c.0 c.1 (placed_there table.columns (place_of_column table named.name) c there) (judged_names table names) all same
 
@@ -134,16 +138,28 @@ scalar_printed array of (inr (inr (inl is))) = rw is refl
 scalar_printed array of (inr (inr (inr (inl is)))) = rw is refl
 scalar_printed array of (inr (inr (inr (inr is)))) = rw is refl
 
-prints : (identifier : List ℕ) (output : Output) → ShowsFirst output → Prints output (field identifier output)
-unfolding field
-prints identifier output first = record { printed = scalar_printed output.of.array output.of.scalar first.first; form = refl }
+output_printed : (output : Output) → ShowsFirst output → IsPrinted output.of
+output_printed output first = scalar_printed output.of.array output.of.scalar first.first
 
-fields_print : (earlier : List (List ℕ)) (outputs : List Output) → AllByRecursion ShowsFirst outputs → AllZip Prints outputs (fields_after earlier outputs)
-fields_print earlier [] all = tt
-fields_print earlier (output ∷ outputs) all = (prints (numbered earlier (pascal output.name)) output all.0, fields_print (earlier ++ pascal output.name ∷ []) outputs all.1)
+pub are_printed : (outputs : List Output) → AllByRecursion ShowsFirst outputs → ArePrinted outputs
+are_printed [] all = tt
+are_printed (output ∷ outputs) all = (output_printed output all.0, are_printed outputs all.1)
 
--- the shown columns print the outputs
-pub columns_print : (outputs : List Output) → AllByRecursion ShowsFirst outputs → AllZip Prints outputs (shown_columns outputs)
-columns_print [] all = tt
-columns_print (output ∷ []) all = (prints (codes "_") output all.0, tt)
-columns_print (output ∷ second ∷ outputs) all = fields_print [] (output ∷ second ∷ outputs) all
+-- the texts of the core are those that are written
+abbrev pub TextIsWritten : Contents → Type 0
+TextIsWritten contents = (of : PgType) (nullable : Bool) → IsPrinted of → printed_text Go contents of nullable ≡ printed_form of nullable
+
+module _ (contents : Contents) (written : TextIsWritten contents) where
+  prints : (identifier : List ℕ) (output : Output) → ShowsFirst output → Prints Go contents output (field identifier output)
+  unfolding field
+  prints identifier output first = sym (written output.of output.nullable (output_printed output first))
+
+  fields_print : (earlier : List (List ℕ)) (outputs : List Output) → AllByRecursion ShowsFirst outputs → AllZip (Prints Go contents) outputs (fields_after earlier outputs)
+  fields_print earlier [] all = tt
+  fields_print earlier (output ∷ outputs) all = (prints (numbered earlier (pascal output.name)) output all.0, fields_print (earlier ++ pascal output.name ∷ []) outputs all.1)
+
+  -- the shown columns print the outputs
+  pub columns_print : (outputs : List Output) → AllByRecursion ShowsFirst outputs → AllZip (Prints Go contents) outputs (shown_columns outputs)
+  columns_print [] all = tt
+  columns_print (output ∷ []) all = (prints (codes "_") output all.0, tt)
+  columns_print (output ∷ second ∷ outputs) all = fields_print [] (output ∷ second ∷ outputs) all

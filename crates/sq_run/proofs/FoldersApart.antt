@@ -8,8 +8,8 @@ use Rattle.std.proofs.lemmas.List.Folds.{list_any-append}
 use Rattle.std.proofs.lemmas.Slice.Eq.{bytes_eq-Decides}
 use Rattle.sq_base.specs.declared.file.File.{File}
 use Rattle.sq_base.specs.Files.{bytes_at}
-use Rattle.sq_core.specs.Names.{has_equal}
-use Rattle.sq_run.specs.Paths.{folder_of}
+use Rattle.sq_shown.specs.Names.{has_equal}
+use Rattle.sq_config.specs.Paths.{folder_of}
 use Rattle.sq_run.specs.Run.{held_after}
 use Rattle.sq_run.proofs.FileNames.{is_slash, differ, differs}
 use Rattle.sq_run.proofs.Models.{either_none}

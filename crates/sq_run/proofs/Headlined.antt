@@ -6,25 +6,25 @@ use Rattle.std.specs.Option.{option_map}
 use Rattle.std.proofs.lemmas.Option.{same_Some}
 use Rattle.sq_base.specs.Files.{bytes_at}
 use Rattle.sq_base.specs.declared.file.File.{File}
-use Rattle.sq_core.specs.Layout as layout
-use Rattle.sq_core.specs.Names.{clash}
-use Rattle.sq_core.specs.Words.{is_word}
-use Rattle.sq_core.specs.declared.declaration.ModelDecl.{ModelDecl}
-use Rattle.sq_core.specs.declared.declaration.QueryFile.{QueryFile}
-use Rattle.sq_core.specs.declared.signature.Shown.{Shown}
+use Rattle.sq_shown.specs.Layout as layout
+use Rattle.sq_shown.specs.Names.{clash}
+use Rattle.sq_shown.specs.Words.{is_word}
+use Rattle.sq_shown.specs.declared.declaration.ModelDecl.{ModelDecl}
+use Rattle.sq_shown.specs.declared.declaration.QueryFile.{QueryFile}
+use Rattle.sq_shown.specs.declared.signature.Shown.{Shown}
 use Rattle.sq_reader.specs.Reading.{Reads}
-use Rattle.sq_run.specs.declared.command_line.Request.{Request}
-use Rattle.sq_run.specs.declared.command_line.Task.{Task}
-use Rattle.sq_run.specs.declared.command_line.Task.TheVariants.{Generate}
-use Rattle.sq_run.specs.declared.configuration.Block.{Block}
-use Rattle.sq_run.specs.declared.configuration.Entry.{Entry}
-use Rattle.sq_run.specs.declared.entries.Purpose.{Purpose}
-use Rattle.sq_run.specs.declared.entries.Purpose.TheVariants.{Schema, Queries}
-use Rattle.sq_run.specs.declared.outputs.Output.{Output}
+use Rattle.sq_config.specs.declared.command_line.Request.{Request}
+use Rattle.sq_config.specs.declared.command_line.Task.{Task}
+use Rattle.sq_config.specs.declared.command_line.Task.TheVariants.{Generate}
+use Rattle.sq_config.specs.declared.configuration.Block.{Block}
+use Rattle.sq_config.specs.declared.configuration.Entry.{Entry}
+use Rattle.sq_plan.specs.declared.entries.Purpose.{Purpose}
+use Rattle.sq_plan.specs.declared.entries.Purpose.TheVariants.{Schema, Queries}
+use Rattle.sq_plan.specs.declared.outputs.Output.{Output}
 use Rattle.sq_run.specs.declared.sources.SourceFile.{SourceFile}
-use Rattle.sq_run.specs.declared.status.Status.{Status}
-use Rattle.sq_run.specs.declared.status.Status.TheVariants.{Done}
-use Rattle.sq_run.specs.CommandLine.{request_of}
+use Rattle.sq_plan.specs.declared.status.Status.{Status}
+use Rattle.sq_plan.specs.declared.status.Status.TheVariants.{Done}
+use Rattle.sq_config.specs.CommandLine.{request_of}
 use Rattle.sq_run.specs.Headline.{IsSource, AreSources, IsWritten, InOrder, IsBlock, IsHeadline, Headline}
 use Rattle.sq_run.specs.Project.{models_of, placed, written, block_files, asked_by, task_asked}
 use Rattle.sq_run.specs.Run.{Outside, Cause, Kept, HoldsAll, files_asked}

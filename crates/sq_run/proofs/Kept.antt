@@ -12,18 +12,19 @@ use Rattle.sq_base.specs.Out.{OutState, SameBut}
 use Rattle.sq_base.specs.declared.file.File.{File}
 use Rattle.sq_base.specs.declared.out.OutFault.{OutFault}
 use Rattle.sq_base.specs.declared.out.OutFault.TheVariants.{Failed as PutFailed, Memory as PutMemory}
-use Rattle.sq_run.specs.declared.halt.Halt.{Halt}
-use Rattle.sq_run.specs.declared.halt.Halt.TheVariants.{Usage as IsUsage, Refused as IsRefused, Missing as HaltMissing, Failed as HaltFailed, Memory as HaltMemory}
-use Rattle.sq_run.specs.declared.status.Status.{Status}
-use Rattle.sq_run.specs.declared.status.Status.TheVariants.{WriteFault}
-use Rattle.sq_run.specs.declared.deliver.PutFault.{PutFault}
-use Rattle.sq_run.specs.Asked.{Follows}
-use Rattle.sq_run.specs.Each.{Each, StopsAt}
-use Rattle.sq_run.specs.Deliver.{Put, PutFails, PutsAll, files_of, report_of}
+use Rattle.sq_plan.specs.declared.halt.Halt.{Halt}
+use Rattle.sq_plan.specs.declared.halt.Ending.TheVariants.{Judged}
+use Rattle.sq_plan.specs.declared.halt.Halt.TheVariants.{Refused as IsRefused, Missing as HaltMissing, Failed as HaltFailed, Memory as HaltMemory}
+use Rattle.sq_plan.specs.declared.status.Status.{Status}
+use Rattle.sq_plan.specs.declared.status.Status.TheVariants.{WriteFault}
+use Rattle.sq_plan.specs.declared.deliver.PutFault.{PutFault}
+use Rattle.sq_plan.specs.Asked.{Follows}
+use Rattle.sq_plan.specs.Each.{Each, StopsAt}
+use Rattle.sq_plan.specs.Deliver.{Put, PutFails, PutsAll, files_of, report_of}
 use Rattle.sq_run.specs.Project.{is_command, asked_by}
 use Rattle.sq_run.specs.Run.{Outside, IsRun, files_asked, held_after, HoldsAll, HoldsFront, Kept}
-use Rattle.sq_run.proofs.Steps.{if_told}
-use Rattle.sq_run.proofs.Causes.{Reached, by_status, run_reached, by_words, nothing_put, put_status, intended, lines_of, asked_is}
+use Rattle.sq_plan.proofs.Steps.{if_told}
+use Rattle.sq_run.proofs.Causes.{Reached, by_status, by_words, commanded_reached, uncommanded_reached, nothing_put, put_status, intended, lines_of, asked_is}
 
 module _ {A : Type 0} where
   pub told_joined : (P Q R : A → A → Type 0) → ((x y z : A) → P x y → Q y z → R x z) → (old mid new : Option A) → Told P old mid → Told Q mid new → Told R old new
@@ -86,15 +87,14 @@ module _ (words : List (List ℕ)) (before after : Outside) (status : Status) wh
   kept_none : after.out ≡ before.out → Kept words before after WriteFault
   kept_none same = if_told before.tree.files (λ held. none_holds (files_asked words held) before.out after.out same)
 
-  kept_halt : (halt : Halt) (put : Result (Unit {0}) PutFault) (lines : List (List ℕ)) → after.out ≡ before.out → Reached (intended (Err halt) put) lines before.screen.faults after.screen.faults status → Kept words before after status
-  kept_halt IsUsage put lines same end = by_status (Kept words before after) end (λ _. same) (λ _ _. kept_none same) (kept_none same)
+  kept_halt : (halt : Halt) (put : Result (Unit {0}) PutFault) (lines : List (List ℕ)) → after.out ≡ before.out → Reached (intended (Judged (Err halt)) put) lines before.screen.faults after.screen.faults status → Kept words before after status
   kept_halt (IsRefused findings) put lines same end = by_status (Kept words before after) end (λ _. same) (λ _ _. kept_none same) (kept_none same)
   kept_halt (HaltMissing path) put lines same end = by_status (Kept words before after) end (λ _. same) (λ _ _. same) (kept_none same)
   kept_halt (HaltFailed path) put lines same end = by_status (Kept words before after) end (λ _. same) (λ _ _. same) (kept_none same)
   kept_halt HaltMemory put lines same end = by_status (Kept words before after) end (λ _. kept_none same) (λ _ _. kept_none same) (kept_none same)
 
-  kept_by : (ending : Result (List File) Halt) (put : Result (Unit {0}) PutFault) (lines : List (List ℕ)) → is_command words ≡ true → Follows (asked_by words) before.tree after.tree ending → PutsAll (files_of ending) before.out after.out put
-      → Reached (intended ending put) lines before.screen.faults after.screen.faults status → Kept words before after status
+  kept_by : (ending : Result (List File) Halt) (put : Result (Unit {0}) PutFault) (lines : List (List ℕ)) → is_command words ≡ true → Follows (asked_by words) before.tree after.tree ending → PutsAll (files_of (Judged ending)) before.out after.out put
+      → Reached (intended (Judged ending) put) lines before.screen.faults after.screen.faults status → Kept words before after status
   kept_by (Ok files) (Ok done) lines command follows puts end =
       let all = puts_hold files before.out after.out puts in
       let front = kept_front files command follows (all_front files before.out.files after.out.files all) in
@@ -113,11 +113,8 @@ module _ (words : List (List ℕ)) (before after : Outside) (status : Status) wh
   kept_by (Err halt) put lines command follows puts end = kept_halt halt put lines (nothing_put put before.out after.out puts) end
 
 pub kept : {words : List (List ℕ)} {before after : Outside} {status : Status} → IsRun words before after status → Kept words before after status
-kept {words = words} {before = before} {after = after} {status = status} r =
-    let end = run_reached r.ending r.put before.screen after.screen status r.telling in
-    by_words (Kept words before after status) r
-    (λ command follows. kept_by words before after status r.ending r.put (lines_of (report_of r.ending r.put)) command follows r.putting end)
-    (λ other same is.
-    let put = subst (λ (e : Result (List File) Halt). PutsAll (files_of e) before.out after.out r.put) is r.putting in
-    let reached = subst (λ (e : Result (List File) Halt). Reached (intended e r.put) (lines_of (report_of e r.put)) before.screen.faults after.screen.faults status) is end in
-    kept_halt words before after status IsUsage r.put (lines_of (report_of (Err IsUsage) r.put)) (nothing_put r.put before.out after.out put) reached)
+kept {words = words} {before = before} {after = after} {status = status} r = by_words (Kept words before after status) r
+    (λ c. kept_by words before after status c.result c.put (lines_of (report_of (Judged c.result) c.put)) c.command c.follows c.putting (commanded_reached c))
+    (λ u.
+    let same = nothing_put u.put before.out after.out u.putting in
+    by_status (Kept words before after) (uncommanded_reached u) (λ _. same) (λ _ _. kept_none words before after status same) (kept_none words before after status same))

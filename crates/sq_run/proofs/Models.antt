@@ -1,5 +1,6 @@
 -- A query that gives all columns of its table in order shows what the table's model shows.
 use Rattle.std.proofs.Common.{◌≡◌, ◌≢◌, ℕ, zero, suc, ◌&&◌, ◌||◌, Bool, true, false, List, [], ◌∷◌, length, map, Option, None, Some, Result, Ok, Err, refl, sym, ◌∙◌, ap, subst, inl, inr, slice_get}
+use Rattle.sq_base.specs.declared.code.Code.TheVariants as code
 use Rattle.std.specs.List.{AllByRecursion, list_any}
 use Rattle.std.specs.Str.{bytes_eq}
 use Rattle.std.proofs.lemmas.Bool.{cases_Bool}
@@ -10,7 +11,7 @@ use Rattle.sq_catalog.specs.Catalogue.{placed_column, place_of_column, repeated_
 use Rattle.sq_catalog.specs.declared.table.Column.{Column as TableColumn}
 use Rattle.sq_catalog.specs.declared.table.Table.{Table}
 use Rattle.sq_core.specs.declared.node.Node.{Node}
-use Rattle.sq_core.specs.declared.signature.Output.{Output}
+use Rattle.sq_shown.specs.declared.signature.Output.{Output}
 use Rattle.sq_run.specs.declared.statements.Named.{Named}
 use Rattle.sq_run.specs.Judged.{judged_names, after_these, node_of, output_of, unknown, have_names}
 use Rattle.sq_run.proofs.FirstTypes.{placed_there, same_ok}
@@ -34,7 +35,7 @@ names_come table (named ∷ names) r same = by_column (λ l. names_come table na
         subst (λ (x : List Node × List Output). AllByRecursion (ComesFrom table.columns) x.1) (same_ok _ _ _ refl same) ((c, (place, there), refl), all l refl)
 
     by_column : ((l : List Node × List Output) → judged_names table names ≡ Ok l → AllByRecursion (ComesFrom table.columns) l.1) → (found : Option (ℕ × TableColumn)) → placed_column table named.name ≡ found
-        → ◌≡◌ {A = Result (List Node × List Output) Refusal} (elim found [ None ↦ Err (unknown 11 named) | Some c ↦ after_these (node_of c.0 c.1 ∷ []) (output_of c.1 ∷ []) (judged_names table names) ]) (Ok r) → AllByRecursion (ComesFrom table.columns) r.1
+        → ◌≡◌ {A = Result (List Node × List Output) Refusal} (elim found [ None ↦ Err (unknown code.UnknownColumn named) | Some c ↦ after_these (node_of c.0 c.1 ∷ []) (output_of c.1 ∷ []) (judged_names table names) ]) (Ok r) → AllByRecursion (ComesFrom table.columns) r.1
     by_column all None there same = absurd (cc same)
     by_column all (Some c) there same = by_later c.0 c.1 (placed_there table.columns (place_of_column table named.name) c there) (judged_names table names) all same
 
@@ -47,7 +48,7 @@ some_outputs table (named ∷ names) r some same = by_column (placed_column tabl
     by_later place c (Err e) same = absurd (cc same)
     by_later place c (Ok l) same = subst (λ (x : List Node × List Output). x.1 ≢ []) (same_ok _ _ _ refl same) (λ none. cc none)
 
-    by_column : (found : Option (ℕ × TableColumn)) → ◌≡◌ {A = Result (List Node × List Output) Refusal} (elim found [ None ↦ Err (unknown 11 named) | Some c ↦ after_these (node_of c.0 c.1 ∷ []) (output_of c.1 ∷ []) (judged_names table names) ]) (Ok r) → r.1 ≢ []
+    by_column : (found : Option (ℕ × TableColumn)) → ◌≡◌ {A = Result (List Node × List Output) Refusal} (elim found [ None ↦ Err (unknown code.UnknownColumn named) | Some c ↦ after_these (node_of c.0 c.1 ∷ []) (output_of c.1 ∷ []) (judged_names table names) ]) (Ok r) → r.1 ≢ []
     by_column None same = absurd (cc same)
     by_column (Some c) same = by_later c.0 c.1 (judged_names table names) same
 
@@ -62,7 +63,7 @@ names_size table (named ∷ names) r same = by_column (λ l. names_size table na
     by_later place c (Ok l) all same = ap (λ (x : List Node × List Output). length x.1) (sym (same_ok _ _ _ refl same)) ∙ ap suc (all l refl)
 
     by_column : ((l : List Node × List Output) → judged_names table names ≡ Ok l → length l.1 ≡ length names) → (found : Option (ℕ × TableColumn))
-        → ◌≡◌ {A = Result (List Node × List Output) Refusal} (elim found [ None ↦ Err (unknown 11 named) | Some c ↦ after_these (node_of c.0 c.1 ∷ []) (output_of c.1 ∷ []) (judged_names table names) ]) (Ok r) → length r.1 ≡ suc (length names)
+        → ◌≡◌ {A = Result (List Node × List Output) Refusal} (elim found [ None ↦ Err (unknown code.UnknownColumn named) | Some c ↦ after_these (node_of c.0 c.1 ∷ []) (output_of c.1 ∷ []) (judged_names table names) ]) (Ok r) → length r.1 ≡ suc (length names)
     by_column all None same = absurd (cc same)
     by_column all (Some c) same = by_later c.0 c.1 (judged_names table names) all same
 

@@ -1,11 +1,11 @@
 -- What stands behind an answer that is there.
 use Rattle.std.proofs.Common.{◌≡◌, ℕ, ◌+◌, List, [], ◌∷◌, ◌++◌, Option, None, Some, Result, Ok, Err, refl, sym, ap}
-use Rattle.sq_run.specs.declared.halt.Finding.{Finding}
+use Rattle.sq_plan.specs.declared.halt.Finding.{Finding}
 use Rattle.std.proofs.lemmas.Option.{same_Some}
 use Rattle.std.specs.List.{AllByRecursion}
 use Rattle.sq_base.specs.declared.file.File.{File}
-use Rattle.sq_run.specs.Asked.{Asked, and_then, and_also, gathered, joined, each_judged}
-use Rattle.sq_run.specs.Statements.{◌>>=◌}
+use Rattle.sq_plan.specs.Asked.{Asked, and_then, and_also, gathered, joined, each_judged}
+use Rattle.sq_plan.specs.Options.{◌>>=◌}
 
 pub bind_some : {A B : Type 0} (m : Option A) (f : A → Option B) (y : B) → (m >>= f) ≡ Some y → (x : A) × (m ≡ Some x) × (f x ≡ Some y)
 bind_some None f y is = absurd (cc is)

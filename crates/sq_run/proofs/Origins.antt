@@ -1,5 +1,6 @@
 -- Where a catalogue, a query's text and its columns come from.
 use Rattle.std.proofs.Common.{◌≡◌, ◌≢◌, ◌≤◌, ℕ, ◌-◌, ◌&&◌, not, Bool, true, false, List, [], ◌∷◌, length, take, drop, Option, None, Some, Result, Ok, Err, refl, sym, ◌∙◌, ap, subst, inl, inr, arith, slice_get}
+use Rattle.sq_base.specs.declared.code.Code.TheVariants as code
 use Rattle.std.specs.Prelude.{codes, if◌then◌else◌}
 use Rattle.std.specs.List.{AllByRecursion, AllZip, list_all}
 use Rattle.std.specs.Option.{option_map}
@@ -11,9 +12,9 @@ use Rattle.sq_base.specs.declared.refusal.Refusal.{Refusal}
 use Rattle.sq_catalog.specs.Contents.{Contents}
 use Rattle.sq_catalog.specs.Catalogue.{empty, placed_table, place_of_table}
 use Rattle.sq_catalog.specs.declared.table.Table.{Table}
-use Rattle.sq_core.specs.Sound.{select as select_core}
+use Rattle.sq_core.specs.Columns.{select as select_core}
 use Rattle.sq_core.specs.declared.node.Node.{Node}
-use Rattle.sq_core.specs.declared.signature.Output.{Output as OutputColumn}
+use Rattle.sq_shown.specs.declared.signature.Output.{Output as OutputColumn}
 use Rattle.sq_lexer.specs.Printed.{printed}
 use Rattle.sq_lexer.specs.TokenList.{token_list}
 use Rattle.sq_migrate.specs.Kept.{IsCatalogue}
@@ -22,14 +23,14 @@ use Rattle.sq_syntax.specs.declared.ddl.Ddl.{Ddl}
 use Rattle.sq_syntax.specs.declared.token.Token.{Token}
 use Rattle.sq_syntax.specs.declared.token.TokenKind.{TokenKind}
 use Rattle.sq_syntax.specs.declared.token.TokenKind.TheVariants.{Word, Quoted, Text, EText, Dollar, Number, Parameter, Named, Operator, Punct, Note}
-use Rattle.sq_run.specs.declared.halt.Finding.{Finding}
-use Rattle.sq_run.specs.declared.halt.Finding.TheVariants.{Configuration as InConfiguration}
+use Rattle.sq_plan.specs.declared.halt.Finding.{Finding}
+use Rattle.sq_plan.specs.Findings.{of_whole}
 use Rattle.sq_run.specs.declared.judge.Judged.{Judged}
-use Rattle.sq_run.specs.declared.entries.Purpose.{Purpose}
+use Rattle.sq_plan.specs.declared.entries.Purpose.{Purpose}
 use Rattle.sq_run.specs.declared.query.Query.{Query}
 use Rattle.sq_run.specs.declared.statements.Select.{Select}
 use Rattle.sq_run.specs.Judged.{judged, judged_names, judged_select, model_used, unknown}
-use Rattle.sq_run.specs.declared.read.TheConstants.{LIMIT}
+use Rattle.sq_base.specs.declared.limits.TheConstants.{MOST_FILE_BYTES}
 use Rattle.sq_run.specs.declared.sources.SourceFile.{SourceFile}
 use Rattle.sq_run.specs.Schema.{Made, made, read_ddl, replay_of, statements, without_notes, after_read, after_statement, after_statements, after_file, after_files, all_made, has_first_types, has_enums, has_domains, is_built, catalogue_by, catalogue_of}
 use Rattle.sq_run.specs.Names.{is_identifier}
@@ -38,8 +39,8 @@ use Rattle.sq_run.specs.Statements.{one_statement, select}
 use Rattle.sq_run.proofs.FirstTypes.{HasFirstTypes, tables_first, placed_there, same_ok}
 use Rattle.sq_run.proofs.OkSteps.{bind_some}
 use Rattle.sq_run.proofs.Sizes.{list_size, query_size, statement_size}
-use Rattle.sq_run.specs.Sources.{bytes_read}
-use Rattle.sq_run.proofs.Marked.{bytes_read_size}
+use Rattle.sq_plan.specs.Sources.{bytes_read}
+use Rattle.sq_plan.proofs.Marked.{bytes_read_size}
 use Rattle.sq_run.proofs.Plans.{FromSource}
 
 -- the tokens of a source that was read
@@ -47,7 +48,7 @@ pub record IsRead (file : SourceFile) : Type 0 where
   pub number : ℕ
   pub bytes : List ℕ
   pub listed : token_list number bytes ≡ Ok file.tokens
-  pub small : length file.tokens ≤ LIMIT
+  pub small : length file.tokens ≤ MOST_FILE_BYTES
 
 pub all_read : (purpose : Purpose) (held : List File) (paths : List (List ℕ)) (files : List SourceFile) → AllZip (FromSource purpose held) paths files → AllByRecursion IsRead files
 all_read purpose held [] [] from = tt
@@ -67,7 +68,7 @@ pub record FromSchema (contents : Contents) : Type 0 where
 catalogue_ok : (path : List ℕ) (made contents : Contents) (findings : List Finding) → catalogue_by path made findings ≡ Ok contents → (made ≡ contents) × (is_built made ≡ true)
 catalogue_ok path made contents [] is = by_built (is_built made) refl is
   where
-    by_built : (built : Bool) → is_built made ≡ built → ◌≡◌ {A = Result Contents (List Finding)} (if built then Ok made else Err (InConfiguration path 99 [] ∷ [])) (Ok contents) → (made ≡ contents) × (is_built made ≡ true)
+    by_built : (built : Bool) → is_built made ≡ built → ◌≡◌ {A = Result Contents (List Finding)} (if built then Ok made else Err (of_whole path code.NotYet [] ∷ [])) (Ok contents) → (made ≡ contents) × (is_built made ≡ true)
     by_built true there is = (cc is, there)
     by_built false there is = absurd (cc is)
 catalogue_ok path made contents (finding ∷ findings) is = absurd (cc is)
@@ -213,6 +214,6 @@ table_from contents query found is = by_table (placed_table contents (codes "pub
     by_names place table there (Ok columns) names is = record { place = place; table = table; there = there; columns = columns; judges = names; is = sym (same_ok _ _ _ refl is) }
 
     by_table : (placed : Option (ℕ × Table)) → placed_table contents (codes "public") query.table.name ≡ placed
-        → ◌≡◌ {A = Result Judged Refusal} (elim placed [ None ↦ Err (unknown 10 query.table) | Some t ↦ judged_select t.0 t.1 (judged_names t.1 query.outputs) ]) (Ok found) → FromTable contents query found
+        → ◌≡◌ {A = Result Judged Refusal} (elim placed [ None ↦ Err (unknown code.UnknownTable query.table) | Some t ↦ judged_select t.0 t.1 (judged_names t.1 query.outputs) ]) (Ok found) → FromTable contents query found
     by_table None at is = absurd (cc is)
     by_table (Some t) at is = by_names t.0 t.1 (placed_there contents.tables (place_of_table contents (codes "public") query.table.name) t at) (judged_names t.1 query.outputs) refl is

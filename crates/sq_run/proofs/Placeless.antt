@@ -1,5 +1,6 @@
 -- What a query is judged to be depends on the spelling of its tokens alone, and not on their places and gaps.
 use Rattle.std.proofs.Common.{◌≡◌, ℕ, zero, suc, Bool, true, false, List, [], ◌∷◌, ◌++◌, cond, length, map, Option, None, Some, option_map, Result, Ok, Err, refl, sym, ◌∙◌, ap, inl, inr}
+use Rattle.sq_base.specs.declared.code.Code.TheVariants as code
 use Rattle.std.specs.Prelude.{codes}
 use Rattle.std.proofs.lemmas.Bool.{cases_Bool}
 use Rattle.std.proofs.lemmas.List.{length-map}
@@ -9,7 +10,7 @@ use Rattle.sq_catalog.specs.Catalogue.{placed_table, placed_column}
 use Rattle.sq_catalog.specs.declared.table.Column.{Column as TableColumn}
 use Rattle.sq_catalog.specs.declared.table.Table.{Table}
 use Rattle.sq_core.specs.declared.node.Node.{Node}
-use Rattle.sq_core.specs.declared.signature.Output.{Output}
+use Rattle.sq_shown.specs.declared.signature.Output.{Output}
 use Rattle.sq_syntax.specs.declared.token.Token.{Token}
 use Rattle.sq_syntax.specs.declared.token.TokenKind.{TokenKind}
 use Rattle.sq_syntax.specs.declared.token.TokenKind.TheVariants.{Word, Punct}
@@ -18,7 +19,8 @@ use Rattle.sq_syntax.specs.declared.token.Gap.TheVariants.{Nothing}
 use Rattle.sq_run.specs.declared.statements.Named.{Named}
 use Rattle.sq_run.specs.declared.statements.Select.{Select}
 use Rattle.sq_run.specs.declared.judge.Judged.{Judged}
-use Rattle.sq_run.specs.Statements.{Part, is, named, after, name_at, next, with_item, items_from, items_at, ended, select, ◌>>=◌}
+use Rattle.sq_plan.specs.Options.{◌>>=◌}
+use Rattle.sq_run.specs.Statements.{Part, is, named, after, name_at, next, with_item, items_from, items_at, ended, select}
 use Rattle.sq_run.specs.Names.{name_text}
 use Rattle.sq_run.specs.Judged.{judged, judged_names, judged_select, after_these, node_of, output_of, unknown}
 use Rattle.sq_run.specs.Headline.{accepted}
@@ -157,8 +159,8 @@ names_plain : (table : Table) (names : List Named) → accepted (judged_names ta
 names_plain table [] = refl
 names_plain table (named ∷ names) = by_column (names_plain table names) (placed_column table named.name)
   where
-    by_column : accepted (judged_names table (map plain_named names)) ≡ accepted (judged_names table names) → (found : Option (ℕ × TableColumn)) → accepted (elim found [ None ↦ Err (unknown 11 (plain_named named)) | Some c ↦ after_these (node_of c.0 c.1 ∷ []) (output_of c.1 ∷ []) (judged_names table (map plain_named names)) ])
-        ≡ accepted (elim found [ None ↦ Err (unknown 11 named) | Some c ↦ after_these (node_of c.0 c.1 ∷ []) (output_of c.1 ∷ []) (judged_names table names) ])
+    by_column : accepted (judged_names table (map plain_named names)) ≡ accepted (judged_names table names) → (found : Option (ℕ × TableColumn)) → accepted (elim found [ None ↦ Err (unknown code.UnknownColumn (plain_named named)) | Some c ↦ after_these (node_of c.0 c.1 ∷ []) (output_of c.1 ∷ []) (judged_names table (map plain_named names)) ])
+        ≡ accepted (elim found [ None ↦ Err (unknown code.UnknownColumn named) | Some c ↦ after_these (node_of c.0 c.1 ∷ []) (output_of c.1 ∷ []) (judged_names table names) ])
     by_column later None = refl
     by_column later (Some c) = accepted_after (node_of c.0 c.1 ∷ []) (output_of c.1 ∷ []) (judged_names table (map plain_named names)) (judged_names table names) later
 
@@ -172,8 +174,8 @@ judged_plain : (contents : Contents) (query : Select) → accepted (judged conte
 unfolding judged
 judged_plain contents query = by_table (placed_table contents (codes "public") query.table.name)
   where
-    by_table : (found : Option (ℕ × Table)) → accepted (elim found [ None ↦ Err (unknown 10 (plain_named query.table)) | Some t ↦ judged_select t.0 t.1 (judged_names t.1 (map plain_named query.outputs)) ])
-        ≡ accepted (elim found [ None ↦ Err (unknown 10 query.table) | Some t ↦ judged_select t.0 t.1 (judged_names t.1 query.outputs) ])
+    by_table : (found : Option (ℕ × Table)) → accepted (elim found [ None ↦ Err (unknown code.UnknownTable (plain_named query.table)) | Some t ↦ judged_select t.0 t.1 (judged_names t.1 (map plain_named query.outputs)) ])
+        ≡ accepted (elim found [ None ↦ Err (unknown code.UnknownTable query.table) | Some t ↦ judged_select t.0 t.1 (judged_names t.1 query.outputs) ])
     by_table None = refl
     by_table (Some t) = accepted_select t.0 t.1 (judged_names t.1 (map plain_named query.outputs)) (judged_names t.1 query.outputs) (names_plain t.1 query.outputs)
 

@@ -1,5 +1,6 @@
 -- What stands behind the files of an accepted project.
 use Rattle.std.proofs.Common.{◌≡◌, ◌≤◌, ℕ, ◌+◌, false, List, [], ◌∷◌, ◌++◌, length, drop, Option, None, Some, Result, Ok, Err, refl, sym, ◌∙◌, ap, subst, inl, inr, arith, nat_le}
+use Rattle.sq_base.specs.declared.code.Code.TheVariants as code
 use Rattle.std.specs.List.{AllZip}
 use Rattle.std.specs.Option.{option_map, option_map_or, option_or}
 use Rattle.std.proofs.lemmas.Bool.{cases_Bool, leb-true}
@@ -8,54 +9,56 @@ use Rattle.sq_base.specs.Files.{bytes_at}
 use Rattle.sq_base.specs.declared.file.File.{File}
 use Rattle.sq_base.specs.declared.refusal.Refusal.{Refusal}
 use Rattle.sq_catalog.specs.Contents.{Contents}
-use Rattle.sq_core.specs.Identifiers.{package_name}
-use Rattle.sq_core.specs.Names.{clash}
-use Rattle.sq_core.specs.declared.declaration.ModelDecl.{ModelDecl}
-use Rattle.sq_core.specs.declared.declaration.QueryFile.{QueryFile}
+use Rattle.sq_shown.specs.Identifiers.{package_name}
+use Rattle.sq_shown.specs.Names.{clash}
+use Rattle.sq_shown.specs.declared.declaration.ModelDecl.{ModelDecl}
+use Rattle.sq_shown.specs.declared.declaration.QueryFile.{QueryFile}
 use Rattle.sq_lexer.specs.TokenList.{token_list}
 use Rattle.sq_syntax.specs.declared.token.Token.{Token}
-use Rattle.sq_run.specs.declared.halt.Finding.{Finding}
+use Rattle.sq_plan.specs.declared.halt.Finding.{Finding}
 use Rattle.sq_run.specs.declared.judge.Judged.{Judged}
 use Rattle.sq_run.specs.declared.query.Query.{Query}
-use Rattle.sq_run.specs.declared.command_line.Task.TheVariants.{Generate}
-use Rattle.sq_run.specs.declared.configuration.Block.{Block}
-use Rattle.sq_run.specs.declared.configuration.Configuration.{Configuration as Configured}
-use Rattle.sq_run.specs.declared.configuration.Entry.{Entry}
-use Rattle.sq_run.specs.declared.configuration.OptionPair.{OptionPair}
-use Rattle.sq_run.specs.declared.entries.Purpose.{Purpose}
-use Rattle.sq_run.specs.declared.entries.Purpose.TheVariants.{Schema, Queries}
-use Rattle.sq_run.specs.declared.outputs.Output.{Output}
-use Rattle.sq_run.specs.declared.read.Role.{Role}
-use Rattle.sq_run.specs.declared.read.Role.TheVariants.{Configuration, Source}
-use Rattle.sq_run.specs.declared.read.TheConstants.{LIMIT}
+use Rattle.sq_config.specs.declared.command_line.Task.TheVariants.{Generate}
+use Rattle.sq_config.specs.declared.configuration.Block.{Block}
+use Rattle.sq_config.specs.declared.configuration.Configuration.{Configuration as Configured}
+use Rattle.sq_config.specs.declared.configuration.Entry.{Entry}
+use Rattle.sq_config.specs.declared.configuration.OptionPair.{OptionPair}
+use Rattle.sq_plan.specs.declared.entries.Purpose.{Purpose}
+use Rattle.sq_plan.specs.declared.entries.Purpose.TheVariants.{Schema, Queries}
+use Rattle.sq_plan.specs.declared.outputs.Output.{Output}
+use Rattle.sq_plan.specs.declared.read.Role.{Role}
+use Rattle.sq_plan.specs.declared.read.Role.TheVariants.{Configuration, Source}
+use Rattle.sq_base.specs.declared.limits.TheConstants.{MOST_FILE_BYTES}
 use Rattle.sq_run.specs.declared.sources.SourceFile.{SourceFile}
-use Rattle.sq_run.specs.declared.sources.TheConstants.{MOST_FILES}
-use Rattle.sq_run.specs.Asked.{nothing_asked, gathered, each_judged}
+use Rattle.sq_base.specs.declared.limits.TheConstants.{MOST_FILES}
+use Rattle.sq_plan.specs.Asked.{nothing_asked, gathered, each_judged}
 use Rattle.sq_run.specs.Headline.{IsSource}
 use Rattle.serde_json.specs.Data.{Data}
-use Rattle.sq_run.specs.Configuration.{refused, unless_bad, with_good_outs, read_value}
-use Rattle.sq_run.specs.Json.{json_value}
-use Rattle.sq_run.specs.Meaning.{meaning_of}
-use Rattle.sq_run.specs.Outs.{all_entries, same_out, other_writer}
-use Rattle.sq_run.specs.Shape.{bad_key}
-use Rattle.sq_run.specs.Paths.{folder_of}
+use Rattle.sq_config.specs.Configuration.{refused, unless_bad, with_good_outs, read_value}
+use Rattle.sq_config.specs.Json.{json_value}
+use Rattle.sq_config.specs.Meaning.{meaning_of}
+use Rattle.sq_config.specs.Outs.{all_entries, same_out, other_writer}
+use Rattle.sq_config.specs.Shape.{bad_key}
+use Rattle.sq_config.specs.Paths.{folder_of}
 use Rattle.sq_run.specs.Judged.{judged}
-use Rattle.sq_run.specs.Project.{checked, whole_file, listed, unless_more, counted, with_tokens, source, sources, output_by, output_of_entry, configured_by, configured, configuration_at, catalogue_of, models_of, file_with, file_by, file_of, file_read, file_named, declared_in, output_files, written, block_files, all_files, requested}
+use Rattle.sq_plan.specs.Reading.{checked, whole_file, listed}
+use Rattle.sq_plan.specs.Outputs.{output_by, output_of_entry}
+use Rattle.sq_run.specs.Project.{unless_more, counted, with_tokens, source, sources, configured_by, configured, configuration_at, catalogue_of, models_of, file_with, file_by, file_of, file_read, file_named, declared_in, output_files, written, block_files, all_files, requested}
 use Rattle.sq_run.specs.Parsed.{statement_check}
 use Rattle.sq_run.specs.Query.{named_statement, query_in, query_of}
-use Rattle.sq_run.specs.Sources.{found_at, found_for, bytes_read}
+use Rattle.sq_plan.specs.Sources.{found_at, found_for, bytes_read}
 use Rattle.sq_run.proofs.OkSteps.{and_then_ok, Gathered, gathered_ok, EachOk, each_ok}
 
 same_answer : {A : Type 0} (r : Result A (List Finding)) (x y : A) → r ≡ Ok x → r ≡ Ok y → x ≡ y
 same_answer r x y one other = cc (one, other)
 
-checked_ok : (role : Role) (path b bytes : List ℕ) → checked role path b ≡ Ok bytes → (b ≡ bytes) × (length b ≤ LIMIT)
-checked_ok role path b bytes is = elim (cases_Bool (nat_le (length b) LIMIT)) [
-  | inl fits ↦ (same_answer _ _ _ refl (rw fits at is), leb-true (length b) LIMIT fits)
+checked_ok : (role : Role) (path b bytes : List ℕ) → checked role path b ≡ Ok bytes → (b ≡ bytes) × (length b ≤ MOST_FILE_BYTES)
+checked_ok role path b bytes is = elim (cases_Bool (nat_le (length b) MOST_FILE_BYTES)) [
+  | inl fits ↦ (same_answer _ _ _ refl (rw fits at is), leb-true (length b) MOST_FILE_BYTES fits)
   | inr not ↦ absurd (cc (rw not at is))
 ]
 
-held_ok : (role : Role) (path bytes : List ℕ) (found : Option (List ℕ)) → option_map (checked role path) found ≡ Some (Ok bytes) → (found ≡ Some bytes) × (length bytes ≤ LIMIT)
+held_ok : (role : Role) (path bytes : List ℕ) (found : Option (List ℕ)) → option_map (checked role path) found ≡ Some (Ok bytes) → (found ≡ Some bytes) × (length bytes ≤ MOST_FILE_BYTES)
 held_ok role path bytes None is = absurd (cc is)
 held_ok role path bytes (Some b) is =
     let whole = checked_ok role path b bytes (same_Some _ _ is) in
@@ -67,7 +70,7 @@ pub record FromSource (purpose : Purpose) (held : List File) (path : List ℕ) (
   pub number : ℕ
   pub at_path : file.path ≡ path
   pub source_held : bytes_at held path ≡ Some bytes
-  pub fits : length bytes ≤ LIMIT
+  pub fits : length bytes ≤ MOST_FILE_BYTES
   pub listed : token_list number (bytes_read purpose bytes) ≡ Ok file.tokens
 
 pub is_source : (purpose : Purpose) (held : List File) (path : List ℕ) (file : SourceFile) → FromSource purpose held path file → IsSource purpose held path file
@@ -102,7 +105,7 @@ source_ok purpose n path held own is =
     let whole = held_ok Source path read.0 (bytes_at held path) read.1 in
     by_tokens read.0 whole.0 whole.1 (token_list n (bytes_read purpose read.0)) refl (same_Some _ _ read.2)
   where
-    by_tokens : (bytes : List ℕ) → bytes_at held path ≡ Some bytes → length bytes ≤ LIMIT → (list : Result (List Token) Refusal) → token_list n (bytes_read purpose bytes) ≡ list → with_tokens path list ≡ Ok own
+    by_tokens : (bytes : List ℕ) → bytes_at held path ≡ Some bytes → length bytes ≤ MOST_FILE_BYTES → (list : Result (List Token) Refusal) → token_list n (bytes_read purpose bytes) ≡ list → with_tokens path list ≡ Ok own
         → (file : SourceFile) × (own ≡ file ∷ []) × FromSource purpose held path file
     by_tokens bytes there fits (Err refusal) listed is = absurd (cc is)
     by_tokens bytes there fits (Ok tokens) listed is = (record { path = path; tokens = tokens }, sym (same_answer _ _ _ refl is), record { bytes = bytes; number = n; at_path = refl; source_held = there; fits = fits; listed = listed })
@@ -251,18 +254,18 @@ accepted_from path held files is =
 pub outs_apart : (path bytes : List ℕ) (blocks : List Block) → configured path bytes ≡ Ok blocks → same_out (all_entries blocks) ≡ None
 outs_apart path bytes blocks is = by_read (json_value bytes) is
   where
-    by_same : (found : Option (List ℕ)) (bs : List Block) → same_out (all_entries bs) ≡ found → configured_by path (unless_bad (option_or (option_map (refused 73) found) (option_map (refused 72) (other_writer (all_entries bs)))) (Ok (record { blocks = bs }))) ≡ Ok blocks → same_out (all_entries blocks) ≡ None
+    by_same : (found : Option (List ℕ)) (bs : List Block) → same_out (all_entries bs) ≡ found → configured_by path (unless_bad (option_or (option_map (refused code.SameOut) found) (option_map (refused code.NoWriter) (other_writer (all_entries bs)))) (Ok (record { blocks = bs }))) ≡ Ok blocks → same_out (all_entries blocks) ≡ None
     by_same (Some key) bs there is = absurd (cc is)
     by_same None bs there is = by_writer (other_writer (all_entries bs)) is
       where
-        by_writer : (writer : Option (List ℕ)) → configured_by path (unless_bad (option_map (refused 72) writer) (Ok (record { blocks = bs }))) ≡ Ok blocks → same_out (all_entries blocks) ≡ None
+        by_writer : (writer : Option (List ℕ)) → configured_by path (unless_bad (option_map (refused code.NoWriter) writer) (Ok (record { blocks = bs }))) ≡ Ok blocks → same_out (all_entries blocks) ≡ None
         by_writer (Some name) is = absurd (cc is)
         by_writer None is = let same : bs ≡ blocks = same_answer _ _ _ refl is in rw (← same) there
 
-    by_key : (bad : Option (List ℕ)) (meaning : Configured) → configured_by path (unless_bad (option_map (refused 71) bad) (with_good_outs meaning)) ≡ Ok blocks → same_out (all_entries blocks) ≡ None
+    by_key : (bad : Option (List ℕ)) (meaning : Configured) → configured_by path (unless_bad (option_map (refused code.BadKey) bad) (with_good_outs meaning)) ≡ Ok blocks → same_out (all_entries blocks) ≡ None
     by_key (Some key) meaning is = absurd (cc is)
     by_key None meaning is = by_same (same_out (all_entries meaning.blocks)) meaning.blocks refl is
 
-    by_read : (value : Option Data) → configured_by path (option_map_or (read_value (folder_of path)) value (Err (refused 70 []))) ≡ Ok blocks → same_out (all_entries blocks) ≡ None
+    by_read : (value : Option Data) → configured_by path (option_map_or (read_value (folder_of path)) value (Err (refused code.BadJson []))) ≡ Ok blocks → same_out (all_entries blocks) ≡ None
     by_read None is = absurd (cc is)
     by_read (Some value) is = by_key (bad_key value) (meaning_of (folder_of path) value) is

@@ -6,31 +6,32 @@ use Rattle.sq_base.specs.Counts.{Told}
 use Rattle.sq_base.specs.Sink.{SinkState, IsWrite, Appends, AppendsFront}
 use Rattle.sq_base.specs.declared.sink.SinkFault.{SinkFault}
 use Rattle.sq_base.specs.declared.sink.SinkFault.TheVariants.{Failed as WriteFailed, Memory as WriteMemory}
-use Rattle.sq_run.specs.declared.status.Status.{Status}
-use Rattle.sq_run.specs.declared.deliver.Report.{Report}
-use Rattle.sq_run.specs.Each.{Each, StopsAt}
-use Rattle.sq_run.specs.Deliver.{Print, PrintFails, PrintsAll, Shows, Concludes, TellsMemory}
+use Rattle.sq_plan.specs.declared.status.Status.{Status}
+use Rattle.sq_plan.specs.declared.deliver.Report.{Report}
+use Rattle.sq_plan.specs.Each.{Each, StopsAt}
+use Rattle.sq_plan.specs.Deliver.{Print, PrintFails, PrintsAll, Shows, Concludes, TellsMemory}
 use Rattle.sq_run.specs.Run.{text_of, HoldsAll}
-use Rattle.sq_run.specs.Printed.{TellsAfter, ShowsText, ShowsText.whole, ShowsText.cut, ShowsText.no_memory, StopsBefore}
+use Rattle.sq_run.specs.Printed.{TellsAfter, ShowsText, ShowsText.whole, ShowsText.cut, ShowsText.no_memory, HoldsBut, StopsBefore}
 use Rattle.sq_run.proofs.Causes.{each_keeps}
 use Rattle.std.proofs.Common.{inl, inr, true}
-use Rattle.std.specs.Prelude.{IfSome, slice_get}
+use Rattle.std.specs.Prelude.{IfSome, Option, slice_get}
 use Rattle.std.proofs.lemmas.Option.{IfSome_then, same_Some}
 use Rattle.sq_base.specs.declared.file.File.{File}
 use Rattle.sq_base.specs.declared.out.OutFault.{OutFault}
 use Rattle.sq_base.specs.declared.out.OutFault.TheVariants.{Failed as PutFailed, Memory as PutMemory}
-use Rattle.sq_run.specs.declared.halt.Halt.{Halt}
-use Rattle.sq_run.specs.declared.halt.Halt.TheVariants.{Usage as IsUsage, Refused as IsRefused, Missing as HaltMissing, Failed as HaltFailed, Memory as HaltMemory}
-use Rattle.sq_run.specs.declared.status.Status.TheVariants.{WriteFault, Memory}
+use Rattle.sq_plan.specs.declared.halt.Halt.{Halt}
+use Rattle.sq_plan.specs.declared.halt.Ending.TheVariants.{Usage as IsUsage, Judged}
+use Rattle.sq_plan.specs.declared.halt.Halt.TheVariants.{Refused as IsRefused, Missing as HaltMissing, Failed as HaltFailed, Memory as HaltMemory}
+use Rattle.sq_plan.specs.declared.status.Status.TheVariants.{WriteFault, Memory}
 use Rattle.sq_base.specs.Out.{OutState, SameBut}
-use Rattle.sq_run.specs.declared.deliver.PutFault.{PutFault}
-use Rattle.sq_run.proofs.Calls.{shows_within}
-use Rattle.sq_run.specs.Asked.{Follows, EndsAt}
-use Rattle.sq_run.specs.Deliver.{unwritten_line, report, put_failed, report_of, Put, PutFails, PutsAll, files_of}
+use Rattle.sq_plan.specs.declared.deliver.PutFault.{PutFault}
+use Rattle.sq_run.proofs.Calls.{shows_within, stopped_calls}
+use Rattle.sq_plan.specs.Asked.{Follows, EndsAt}
+use Rattle.sq_plan.specs.Deliver.{unwritten_line, report, put_failed, report_of, Put, PutFails, PutsAll, files_of}
 use Rattle.sq_run.specs.Project.{is_command, asked_by}
 use Rattle.sq_run.specs.Run.{Outside, IsRun, Tells, files_asked}
 use Rattle.sq_run.specs.Printed.{AreLinesOf, Printed}
-use Rattle.sq_run.proofs.Causes.{by_words}
+use Rattle.sq_run.proofs.Causes.{Commanded, Uncommanded, by_words}
 use Rattle.sq_run.proofs.Causes.{asked_is}
 use Rattle.sq_run.proofs.Kept.{told_joined, told_same, told_then, puts_hold}
 
@@ -90,11 +91,16 @@ pub shows_text : (report : Report) (old new : SinkState) (status : Status) → S
 shows_text report old new status shows = shows_printed shows.printed report old shows.mid new status shows.lines shows.conclusion
 
 -- where a put has stopped, the files before it were put
-stops_before : (fault : OutFault) (files : List File) (at : ℕ) (old new : OutState) (stops : StopsAt Put (PutFails fault) files at old new) → Told (StopsBefore stops.item files) old.files new.files
-stops_before fault files at old new stops =
-    told_joined (HoldsAll stops.before) (SameBut stops.item.path) (StopsBefore stops.item files)
-    (λ x y z all others. record { put = stops.before; left = stops.left; split = stops.split; held = λ path apart. others path apart ∙ all path })
-    old.files stops.mid.files new.files (puts_hold stops.before old stops.mid stops.steps) stops.last.others
+stops_before : (fault : OutFault) (files : List File) (at : ℕ) (old new : OutState) (stops : StopsAt Put (PutFails fault) files at old new) → StopsBefore stops.item files old new
+stops_before fault files at old new stops = record {
+  put = stops.before;
+  left = stops.left;
+  split = stops.split;
+  calls = stopped_calls fault files at old new stops;
+  held = told_joined (HoldsAll stops.before) (SameBut stops.item.path) (HoldsBut stops.item stops.before)
+      (λ x y z all others path apart. others path apart ∙ all path)
+      old.files stops.mid.files new.files (puts_hold stops.before old stops.mid stops.steps) stops.last.others;
+}
 
 -- and the item is the one at its place
 item_there : (files front left : List File) (item : File) (at : ℕ) → files ≡ front ++ item ∷ left → at ≡ length front → slice_get files at ≡ Some item
@@ -114,47 +120,50 @@ module _ (words : List (List ℕ)) (before after : Outside) where
   put_lines files at PutFailed told asked stops is =
       let there = item_there files stops.before stops.left stops.item at stops.split stops.place in
       let said : put_failed files at PutFailed ≡ Some (record { status = WriteFault; lines = unwritten_line stops.item.path ∷ [] }) = rw there refl in
-      subst Belongs (same_Some _ _ (sym said ∙ is))
-      (stops.item, refl, IfSome_then before.tree.files asked (λ held files_are. subst (λ (fs : List File). Told (StopsBefore stops.item fs) before.out.files after.out.files) files_are (stops_before PutFailed files at before.out after.out stops)))
+      subst Belongs (same_Some _ _ (sym said ∙ is)) (
+        stops.item,
+        refl,
+        (let kept = each_keeps (λ (s : OutState). s.faults) Put (λ x s t step. step.faults) stops.before before.out stops.mid stops.steps in omega (arith, kept, stops.last.faults)),
+        IfSome_then before.tree.files asked (λ held files_are. subst (λ (fs : List File). StopsBefore stops.item fs before.out after.out) files_are (stops_before PutFailed files at before.out after.out stops)),
+      )
   put_lines files at PutMemory told asked stops is = absurd (cc is)
 
-  lines_are : (ending : Result (List File) Halt) (put : Result (Unit {0}) PutFault) (told : Report) → is_command words ≡ true → Follows (asked_by words) before.tree after.tree ending → PutsAll (files_of ending) before.out after.out put
-      → report_of ending put ≡ Some told → Belongs told
-  lines_are (Ok files) (Ok done) told command follows puts is = subst Belongs (same_Some _ _ is) refl
+  lines_are : (ending : Result (List File) Halt) (put : Result (Unit {0}) PutFault) (told : Report) → is_command words ≡ true → Follows (asked_by words) before.tree after.tree ending → PutsAll (files_of (Judged ending)) before.out after.out put
+      → report_of (Judged ending) put ≡ Some told → Belongs told
+  lines_are (Ok files) (Ok done) told command follows puts is =
+      subst Belongs (same_Some _ _ is) (refl, record { command = command; project = IfSome_then before.tree.files follows.asked (λ held answered. (files, answered.ends.0)) })
   lines_are (Ok files) (Err stop) told command follows puts is =
       put_lines files stop.at stop.fault told (IfSome_then before.tree.files follows.asked (λ held answered. asked_is words held files command answered.ends.0)) puts is
-  lines_are (Err IsUsage) put told command follows puts is = absurd follows.faults
   lines_are (Err (IsRefused findings)) put told command follows puts is =
-      subst Belongs (same_Some _ _ is) (findings, refl, IfSome_then before.tree.files follows.asked (λ held answered. answered.ends.0))
+      subst Belongs (same_Some _ _ is) (findings, refl, record { command = command; project = IfSome_then before.tree.files follows.asked (λ held answered. answered.ends.0) })
   lines_are (Err (HaltMissing path)) put told command follows puts is =
-      subst Belongs (same_Some _ _ is) (path, refl, IfSome_then before.tree.files follows.asked (λ held answered. subst (EndsAt path) answered.ends.1 answered.ends.2))
+      subst Belongs (same_Some _ _ is) (path, refl, follows.missings, IfSome_then before.tree.files follows.asked (λ held answered. subst (EndsAt path) answered.ends.1 answered.ends.2))
   lines_are (Err (HaltFailed path)) put told command follows puts is =
       subst Belongs (same_Some _ _ is)
-      (path, refl, IfSome_then before.tree.files follows.asked (λ held answered. record { made = answered.made; first = answered.ends.0; last = answered.ends.1; calls = answered.calls }))
+      (path, refl, follows.faults, IfSome_then before.tree.files follows.asked (λ held answered. record { made = answered.made; first = answered.ends.0; last = answered.ends.1; calls = answered.calls }))
   lines_are (Err HaltMemory) put told command follows puts is = absurd (cc is)
 
-pub printed : {words : List (List ℕ)} {before after : Outside} {status : Status} → IsRun words before after status → Printed words before after status
-printed {words = words} {before = before} {after = after} {status = status} r = of_told r.telling
-  where
-    belongs : (told : Report) → report_of r.ending r.put ≡ Some told → AreLinesOf words before after told.status told.lines
-    belongs told is = by_words (AreLinesOf words before after told.status told.lines) r
-        (λ command follows. lines_are words before after r.ending r.put told command follows r.putting is)
-        (λ other same usage.
-        let said : report_of (Err IsUsage) r.put ≡ Some told = subst (λ (e : Result (List File) Halt). report_of e r.put ≡ Some told) usage is in
-        subst (λ (t : Report). AreLinesOf words before after t.status t.lines) (same_Some _ _ said) refl)
+-- what a run has told
+told_printed : (words : List (List ℕ)) (before after : Outside) (status : Status) (said : Option Report) → ((told : Report) → said ≡ Some told → AreLinesOf words before after told.status told.lines)
+    → Tells said before.screen after.screen status → Printed words before after status
+told_printed words before after status said belongs (inl told) = record {
+  meant = told.0.status;
+  lines = told.0.lines;
+  belongs = belongs told.0 told.1;
+  shown = shows_text told.0 before.screen after.screen status told.2;
+  writes = shows_within told.0 before.screen after.screen status told.2;
+}
+told_printed words before after status said belongs (inr told) = record {
+  meant = Memory;
+  lines = [];
+  belongs = refl;
+  shown = no_memory told.1 (memory_text [] before.screen after.screen told.0);
+  writes = inr (told.1, (1, omega arith, told.0.1.calls));
+}
 
-    of_told : Tells (report_of r.ending r.put) before.screen after.screen status → Printed words before after status
-    of_told (inl told) = record {
-      meant = told.0.status;
-      lines = told.0.lines;
-      belongs = belongs told.0 told.1;
-      shown = shows_text told.0 before.screen after.screen status told.2;
-      writes = shows_within told.0 before.screen after.screen status told.2;
-    }
-    of_told (inr told) = record {
-      meant = Memory;
-      lines = [];
-      belongs = refl;
-      shown = no_memory told.1 (memory_text [] before.screen after.screen told.0);
-      writes = inr (told.1, (1, omega arith, told.0.1.calls));
-    }
+pub printed : {words : List (List ℕ)} {before after : Outside} {status : Status} → IsRun words before after status → Printed words before after status
+printed {words = words} {before = before} {after = after} {status = status} r = by_words (Printed words before after status) r
+    (λ (c : Commanded words before after status). told_printed words before after status (report_of (Judged c.result) c.put)
+    (λ told is. lines_are words before after c.result c.put told c.command c.follows c.putting is) c.telling)
+    (λ (u : Uncommanded words before after status). told_printed words before after status (report_of IsUsage u.put)
+    (λ told is. subst (λ (t : Report). AreLinesOf words before after t.status t.lines) (same_Some _ _ is) (refl, u.other)) u.telling)

@@ -7,14 +7,14 @@ use Rattle.std.proofs.lemmas.Bool.{cases_Bool}
 use Rattle.std.proofs.lemmas.List.Folds.{list_any-append}
 use Rattle.sq_base.specs.declared.types.PgType.{PgType}
 use Rattle.sq_base.specs.declared.types.Scalar.{Scalar}
-use Rattle.sq_core.specs.declared.declaration.ModelDecl.{ModelDecl}
-use Rattle.sq_core.specs.declared.signature.Output.{Output}
-use Rattle.sq_core.specs.declared.signature.ShownField.{ShownField}
-use Rattle.sq_core.specs.Forms.{printed_form, scalar_form, nullable_scalar_form}
-use Rattle.sq_core.specs.Identifiers.{numbered, pascal}
-use Rattle.sq_core.specs.Layout.{forms, is_of_sql, sql_import, model_forms, row_forms, row_type}
-use Rattle.sq_core.specs.Signature.{field, fields, fields_after, shown_columns}
-use Rattle.sq_core.specs.Words.{is_word}
+use Rattle.sq_shown.specs.declared.declaration.ModelDecl.{ModelDecl}
+use Rattle.sq_shown.specs.declared.signature.Output.{Output}
+use Rattle.sq_shown.specs.declared.signature.ShownField.{ShownField}
+use Rattle.sq_shown.specs.Forms.{printed_form, scalar_form, nullable_scalar_form}
+use Rattle.sq_shown.specs.Identifiers.{numbered, pascal}
+use Rattle.sq_shown.specs.Layout.{forms, is_of_sql, sql_import, model_forms, row_forms, row_type}
+use Rattle.sq_shown.specs.Signature.{field, fields, fields_after, shown_columns}
+use Rattle.sq_shown.specs.Words.{is_word}
 use Rattle.sq_reader.specs.Items.{fields_stand, type_stands}
 use Rattle.sq_reader.specs.Parts.{allows}
 use Rattle.sq_reader.specs.Readable.{is_run, is_field, own_types_stand}

@@ -11,23 +11,27 @@ use Rattle.sq_catalog.specs.Catalogue.{empty}
 use Rattle.sq_catalog.specs.declared.table.Column.{Column as TableColumn}
 use Rattle.sq_catalog.specs.declared.table.Table.{Table}
 use Rattle.sq_core.specs.Answer.{Answer, Gives, Fault, Stuck, AnswerKeeps}
-use Rattle.sq_core.specs.Identifiers.{constant_name, model_identifier, package_name}
-use Rattle.sq_core.specs.Layout as layout
-use Rattle.sq_core.specs.Names.{clash, has_equal}
-use Rattle.sq_core.specs.Run.{Rows, run}
-use Rattle.sq_core.specs.Signature.{fields, shown, shown_columns}
-use Rattle.sq_core.specs.Sound.{IsTyped, NeverStuck, AnswerFits, Prints, ShowsColumns, select as select_core}
-use Rattle.sq_core.specs.Words.{is_word}
-use Rattle.sq_core.specs.declared.declaration.ModelDecl.{ModelDecl}
-use Rattle.sq_core.specs.declared.declaration.QueryFile.{QueryFile}
-use Rattle.sq_core.specs.declared.declaration.QuerySig.{QuerySig}
-use Rattle.sq_core.specs.declared.node.CoreStatement.{CoreStatement}
+use Rattle.sq_shown.specs.Identifiers.{constant_name, model_identifier, package_name}
+use Rattle.sq_shown.specs.Layout as layout
+use Rattle.sq_shown.specs.Names.{clash, has_equal}
+use Rattle.sq_core.specs.Changes.{Outcomes}
+use Rattle.sq_core.specs.Client.{output_form}
+use Rattle.sq_core.specs.Columns.{ArePrinted, Prints, ShowsColumns, select as select_core}
+use Rattle.sq_core.specs.Forms.{Form}
+use Rattle.sq_core.specs.declared.weak.Weak.{Weak}
+use Rattle.sq_shown.specs.Signature.{fields, shown, shown_columns}
+use Rattle.sq_core.specs.Sound.{IsTyped, NeverStuck, AnswerFits, run}
+use Rattle.sq_shown.specs.Words.{is_word}
+use Rattle.sq_shown.specs.declared.declaration.ModelDecl.{ModelDecl}
+use Rattle.sq_shown.specs.declared.declaration.QueryFile.{QueryFile}
+use Rattle.sq_shown.specs.declared.declaration.QuerySig.{QuerySig}
+use Rattle.sq_core.specs.declared.statement.CoreStatement.{CoreStatement}
 use Rattle.sq_core.specs.declared.node.Node.{Node}
-use Rattle.sq_core.specs.declared.signature.Language.TheVariants.{Go}
-use Rattle.sq_core.specs.declared.signature.Output.{Output as OutputColumn}
-use Rattle.sq_core.specs.declared.signature.Param.{Param}
-use Rattle.sq_core.specs.declared.signature.Shown.{Shown}
-use Rattle.sq_core.specs.declared.signature.ShownField.{ShownField}
+use Rattle.sq_shown.specs.declared.signature.Language.TheVariants.{Go}
+use Rattle.sq_shown.specs.declared.signature.Output.{Output as OutputColumn}
+use Rattle.sq_shown.specs.declared.signature.Param.{Param}
+use Rattle.sq_shown.specs.declared.signature.Shown.{Shown}
+use Rattle.sq_shown.specs.declared.signature.ShownField.{ShownField}
 use Rattle.sq_migrate.specs.Kept.{IsCatalogue, IsTable, table_ids, are_apart}
 use Rattle.sq_migrate.specs.Replay.{replayed}
 use Rattle.sq_reader.specs.Readable.{IsReadable, IsReadableModel, IsReadableQuery, IsReadableFile, model_with, is_run}
@@ -48,7 +52,7 @@ use Rattle.sq_lexer.specs.TokenList.{token_list}
 use Rattle.sq_syntax.specs.Tokens.{has_mark}
 use Rattle.sq_syntax.specs.declared.ddl.Ddl.{Ddl}
 use Rattle.sq_syntax.specs.declared.token.Token.{Token}
-use Rattle.sq_run.proofs.FirstTypes.{HasFirst, HasFirstTypes, ShowsFirst, at_place, names_show, columns_print}
+use Rattle.sq_run.proofs.FirstTypes.{HasFirst, HasFirstTypes, ShowsFirst, TextIsWritten, are_printed, at_place, names_show, columns_print}
 use Rattle.sq_run.proofs.Models.{ComesFrom, names_size, names_come, some_outputs, all_outputs, both}
 use Rattle.sq_run.proofs.Placeless.{same_judged}
 use Rattle.sq_run.proofs.FileNames.{IsApart, files_apart, is_slash, no_last_part, no_slash}
@@ -61,8 +65,9 @@ use Rattle.sq_run.proofs.Simple.{query_simple, query_unmarked}
 pub record Laws : Type 0 where
   pub begins : IsCatalogue empty
   pub replays : (contents : Contents) (statements : List Ddl) → IsCatalogue contents → IsCatalogue (replayed contents statements).catalogue
-  pub sound : (contents : Contents) (params : List Param) (core : CoreStatement) (outputs : List OutputColumn) → IsTyped contents core outputs → NeverStuck contents params core outputs
-  pub typed : (contents : Contents) (place : ℕ) (nodes : List Node) (outputs : List OutputColumn) → ShowsColumns contents place nodes outputs → IsTyped contents (select_core place nodes) outputs
+  pub sound : (contents : Contents) (weak : Weak) (core : CoreStatement) (params : List Param) (outputs : List OutputColumn) → IsTyped contents weak core params outputs → NeverStuck contents weak core params outputs
+  pub typed : (contents : Contents) (weak : Weak) (place : ℕ) (nodes : List Node) (outputs : List OutputColumn) → ArePrinted outputs → ShowsColumns contents place nodes outputs → IsTyped contents weak (select_core place nodes) [] outputs
+  pub written : (contents : Contents) → TextIsWritten contents
   pub read : (package_name : List ℕ) (models : List ModelDecl) (files : List QueryFile) → IsReadable package_name models files → Reads (layout.layout package_name models files) (map (λ (query : QuerySig). shown query.signature) (layout.queries_of files))
   pub models : (schema name : List ℕ) → is_word (model_identifier schema name) ≡ true
   pub constants : (query : List ℕ) → is_word query ≡ true → is_word (constant_name query) ≡ true
@@ -75,15 +80,24 @@ pub record Laws : Type 0 where
       → ListedAs other (printed (take count (drop skipped tokens))) (map spelling (take count (drop skipped tokens)))
   pub columns_apart : (columns : List OutputColumn) → length columns < 2 ^ 64 → has_equal (map (λ (f : ShownField). f.name) (shown_columns columns)) ≡ false
 
--- what a run gives fits what is printed
-answer_fits : {Item : Type 0} (contents : Contents) (outputs : List OutputColumn) (columns : List ShownField) (answer : Answer Item Rows) → AllZip Prints outputs columns → AnswerKeeps (AnswerFits contents outputs) answer → AnswerKeeps (ReturnsFit columns) answer
-answer_fits contents outputs columns (Gives rows oracle) prints fits = fits.printed columns prints
-answer_fits contents outputs columns Fault prints fits = tt
-answer_fits contents outputs columns Stuck prints fits = fits
+-- Go alone counts
+abbrev go_counts : Weak
+go_counts = record { go = true; python = false }
 
-runs_as_printed : (contents : Contents) (core : CoreStatement) (outputs : List OutputColumn) (columns : List ShownField) → NeverStuck contents [] core outputs → AllZip Prints outputs columns → RunsAsPrinted contents core columns
-runs_as_printed contents core outputs columns never prints database arguments fits bound oracle =
-    answer_fits contents outputs columns (run Go contents [] core database arguments oracle) prints (never.answers_fit database arguments fits bound oracle)
+-- what a run gives fits what is printed
+answer_fits : {Item : Type 0} (contents : Contents) (outputs : List OutputColumn) (answer : Answer Item Outcomes) → AnswerKeeps (AnswerFits contents outputs) answer
+    → AnswerKeeps (ReturnsFit contents (map (output_form Go contents) outputs)) answer
+answer_fits contents outputs (Gives outcomes oracle) fits = fits.printed Go
+answer_fits contents outputs Fault fits = tt
+answer_fits contents outputs Stuck fits = fits
+
+runs_as_printed : (contents : Contents) (core : CoreStatement) (outputs : List OutputColumn) (columns : List ShownField) → NeverStuck contents go_counts core [] outputs → AllZip (Prints Go contents) outputs columns
+    → RunsAsPrinted contents core outputs columns
+runs_as_printed contents core outputs columns never prints = record {
+  prints = prints;
+  runs = λ database arguments fits bound oracle.
+      answer_fits contents outputs (run Go contents [] core database arguments oracle) (never.answers_fit Go database arguments refl fits bound oracle);
+}
 
 identifier_word : (name : List ℕ) → is_identifier name ≡ true → is_word name ≡ true
 identifier_word [] is = absurd (cc is)
@@ -259,9 +273,10 @@ module _ (laws : Laws) (contents : Contents) (schema : FromSchema contents) wher
     said : SaysQuery contents file (shown (declared query found).signature)
     said =
         let shows = names_show the_table query.select.outputs from.columns first from.judges in
-        let prints = columns_print outputs shows.types in
-        let typed : IsTyped contents (select_core from.place from.columns.0) outputs = laws.typed contents from.place from.columns.0 outputs (rw from.there shows.shows) in
-        let never : NeverStuck contents [] found.core outputs = subst (λ (core : CoreStatement). NeverStuck contents [] core outputs) (sym core_is) (laws.sound contents [] (select_core from.place from.columns.0) outputs typed) in
+        let prints = columns_print contents (laws.written contents) outputs shows.types in
+        let typed : IsTyped contents go_counts (select_core from.place from.columns.0) [] outputs =
+        laws.typed contents go_counts from.place from.columns.0 outputs (are_printed outputs shows.types) (rw from.there shows.shows) in
+        let never : NeverStuck contents go_counts found.core [] outputs = subst (λ (core : CoreStatement). NeverStuck contents go_counts core [] outputs) (sym core_is) (laws.sound contents go_counts (select_core from.place from.columns.0) [] outputs typed) in
         let again = respelled laws read.number read.bytes file.tokens read.listed query text in
         record {
           query = query;

@@ -10,22 +10,23 @@ use Rattle.sq_base.specs.declared.out.OutFault.{OutFault}
 use Rattle.sq_base.specs.declared.out.OutFault.TheVariants.{Failed as PutFailed, Memory as PutMemory}
 use Rattle.sq_base.specs.declared.sink.SinkFault.{SinkFault}
 use Rattle.sq_base.specs.declared.sink.SinkFault.TheVariants.{Failed as ScreenFailed, Memory as WriteMemory}
-use Rattle.sq_run.specs.declared.halt.Halt.{Halt}
-use Rattle.sq_run.specs.declared.halt.Halt.TheVariants.{Usage as IsUsage, Refused as IsRefused, Missing as HaltMissing, Failed as HaltFailed, Memory as HaltMemory}
-use Rattle.sq_run.specs.declared.status.Status.{Status}
-use Rattle.sq_run.specs.declared.status.Status.TheVariants.{Done, Refused, Usage, Memory, Missing}
-use Rattle.sq_run.specs.declared.deliver.Report.{Report}
-use Rattle.sq_run.specs.declared.deliver.PutFault.{PutFault}
-use Rattle.sq_run.specs.Lines.{finding_line, usage_lines}
-use Rattle.sq_run.specs.Asked.{Follows, EndsAt}
-use Rattle.sq_run.specs.Each.{StopsAt}
-use Rattle.sq_run.specs.Deliver.{Put, PutFails, Print, PrintsAll, PutsAll, Concludes, files_of, put_failed, report_of, missing_line}
+use Rattle.sq_plan.specs.declared.halt.Halt.{Halt}
+use Rattle.sq_plan.specs.declared.halt.Ending.TheVariants.{Usage as IsUsage, Judged}
+use Rattle.sq_plan.specs.declared.halt.Halt.TheVariants.{Refused as IsRefused, Missing as HaltMissing, Failed as HaltFailed, Memory as HaltMemory}
+use Rattle.sq_plan.specs.declared.status.Status.{Status}
+use Rattle.sq_plan.specs.declared.status.Status.TheVariants.{Done, Refused, Usage, Memory, Missing}
+use Rattle.sq_plan.specs.declared.deliver.Report.{Report}
+use Rattle.sq_plan.specs.declared.deliver.PutFault.{PutFault}
+use Rattle.sq_plan.specs.Lines.{finding_line, usage_lines}
+use Rattle.sq_plan.specs.Asked.{Follows, EndsAt}
+use Rattle.sq_plan.specs.Each.{StopsAt}
+use Rattle.sq_plan.specs.Deliver.{Put, PutFails, Print, PrintsAll, PutsAll, Concludes, files_of, put_failed, report_of, missing_line}
 use Rattle.sq_run.specs.Project.{is_command, asked_by}
 use Rattle.sq_run.specs.Run.{Outside, IsRun, Tells, IsStated, AsPlanned, Says, HoldsAll, files_asked, text_of}
 use Rattle.sq_run.proofs.Causes.{each_keeps, by_words, asked_is, nothing_put}
 use Rattle.sq_run.proofs.Kept.{puts_hold, told_same}
 use Rattle.sq_run.proofs.Printed.{prints_text}
-use Rattle.sq_run.proofs.Steps.{if_told}
+use Rattle.sq_plan.proofs.Steps.{if_told}
 
 -- what the screen shows of a report where it has not failed and memory wasn't wanting
 pub record Whole (report : Report) (old new : SinkState) (status : Status) : Type 0 where
@@ -71,7 +72,7 @@ module _ (words : List (List ℕ)) (before after : Outside) (status : Status) (q
   none_kept held none same = rw (none, same) (told_same (HoldsAll []) (λ x path. refl) before.out.files)
 
   command_plan : (ending : Result (List File) Halt) (put : Result (Unit {0}) PutFault) → is_command words ≡ true → ¬ Rose before.tree.faults after.tree.faults → ¬ Rose before.out.faults after.out.faults → Follows (asked_by words) before.tree after.tree ending
-      → PutsAll (files_of ending) before.out after.out put → Tells (report_of ending put) before.screen after.screen status → IfSome before.tree.files Plan
+      → PutsAll (files_of (Judged ending)) before.out after.out put → Tells (report_of (Judged ending) put) before.screen after.screen status → IfSome before.tree.files Plan
   command_plan (Ok files) (Ok done) command tree out follows puts tells =
       IfSome_then before.tree.files follows.asked (λ held answered.
       planned held (record { status = Done; lines = [] }) (rw (command, answered.ends.0) (refl, refl))
@@ -84,7 +85,6 @@ module _ (words : List (List ℕ)) (before after : Outside) (status : Status) (q
           let kept = each_keeps (λ (s : OutState). s.faults) Put (λ x s t step. step.faults) stops.before before.out stops.mid stops.steps in
           absurd (out (omega (arith, kept, stops.last.faults)))
       put_stopped PutMemory stops tells = absurd (shown_none _ before.screen after.screen status some refl tells)
-  command_plan (Err IsUsage) put command tree out follows puts tells = absurd follows.faults
   command_plan (Err (IsRefused findings)) put command tree out follows puts tells =
       IfSome_then before.tree.files follows.asked (λ held answered.
       planned held (record { status = Refused; lines = map finding_line findings }) (rw (command, answered.ends.0) (refl, refl))
@@ -99,18 +99,14 @@ module _ (words : List (List ℕ)) (before after : Outside) (status : Status) (q
   command_plan (Err (HaltFailed path)) put command tree out follows puts tells = absurd (tree follows.faults)
   command_plan (Err HaltMemory) put command tree out follows puts tells = absurd (shown_none _ before.screen after.screen status some refl tells)
 
-  usage_plan : (ending : Result (List File) Halt) (put : Result (Unit {0}) PutFault) → is_command words ≡ false → ending ≡ Err IsUsage → PutsAll (files_of ending) before.out after.out put → Tells (report_of ending put) before.screen after.screen status
-      → IfSome before.tree.files Plan
-  usage_plan ending put none is puts tells =
-      let nothing = subst (λ (e : Result (List File) Halt). PutsAll (files_of e) before.out after.out put) is puts in
-      let told = subst (λ (e : Result (List File) Halt). Tells (report_of e put) before.screen after.screen status) is tells in
-      if_told before.tree.files (λ held.
+  usage_plan : (put : Result (Unit {0}) PutFault) → is_command words ≡ false → PutsAll [] before.out after.out put → Tells (report_of IsUsage put) before.screen after.screen status → IfSome before.tree.files Plan
+  usage_plan put none puts tells = if_told before.tree.files (λ held.
       planned held (record { status = Usage; lines = usage_lines }) (rw none (refl, refl))
-      (none_kept held (rw none refl) (nothing_put put before.out after.out nothing))
-      (shown_whole _ _ before.screen after.screen status quiet some refl told))
+      (none_kept held (rw none refl) (nothing_put put before.out after.out puts))
+      (shown_whole _ _ before.screen after.screen status quiet some refl tells))
 
 pub stated : {words : List (List ℕ)} {before after : Outside} {status : Status} → IsRun words before after status → IsStated words before after status
 stated {words = words} {before = before} {after = after} {status = status} r tree out screen some =
     by_words (IfSome before.tree.files (λ held. AsPlanned words held before after status)) r
-    (λ command follows. command_plan words before after status screen some r.ending r.put command tree out follows r.putting r.telling)
-    (λ other same usage. usage_plan words before after status screen some r.ending r.put other usage r.putting r.telling)
+    (λ c. command_plan words before after status screen some c.result c.put c.command tree out c.follows c.putting c.telling)
+    (λ u. usage_plan words before after status screen some u.put u.other u.putting u.telling)

@@ -7,35 +7,40 @@ use Rattle.sq_base.specs.declared.file.File.{File}
 use Rattle.sq_base.specs.declared.refusal.Refusal.{Refusal}
 use Rattle.sq_catalog.specs.Contents.{Contents}
 use Rattle.sq_core.specs.Answer.{Keeps}
-use Rattle.sq_core.specs.Client.{ClientValue, ArgumentsFit}
-use Rattle.sq_core.specs.Run.{Rows, run}
-use Rattle.sq_core.specs.Signature.{shown}
-use Rattle.sq_core.specs.Sound.{RowFitsPrinted}
+use Rattle.sq_core.specs.Changes.{Outcomes}
+use Rattle.sq_core.specs.Client.{ClientValue, ArgumentsFit, RowFitsPrinted, output_form}
+use Rattle.sq_core.specs.Columns.{Prints}
+use Rattle.sq_core.specs.Forms.{Form}
+use Rattle.sq_shown.specs.Signature.{shown}
+use Rattle.sq_core.specs.Sound.{run}
 use Rattle.sq_core.specs.Values.{Database, DatabaseFits}
-use Rattle.sq_core.specs.declared.node.CoreStatement.{CoreStatement}
-use Rattle.sq_core.specs.declared.signature.Language.TheVariants.{Go}
-use Rattle.sq_core.specs.declared.signature.Shown.{Shown}
-use Rattle.sq_core.specs.declared.signature.ShownField.{ShownField}
+use Rattle.sq_core.specs.declared.statement.CoreStatement.{CoreStatement}
+use Rattle.sq_shown.specs.declared.signature.Language.TheVariants.{Go}
+use Rattle.sq_shown.specs.declared.signature.Output.{Output as OutputColumn}
+use Rattle.sq_shown.specs.declared.signature.Shown.{Shown}
+use Rattle.sq_shown.specs.declared.signature.ShownField.{ShownField}
 use Rattle.sq_lexer.specs.TokenList.{token_list}
 use Rattle.sq_reader.specs.Reading.{Reads}
-use Rattle.sq_run.specs.declared.command_line.Task.TheVariants.{Generate}
-use Rattle.sq_run.specs.declared.configuration.Block.{Block}
-use Rattle.sq_run.specs.declared.entries.Purpose.{Purpose}
-use Rattle.sq_run.specs.declared.entries.Purpose.TheVariants.{Schema, Queries}
+use Rattle.sq_config.specs.declared.command_line.Task.TheVariants.{Generate}
+use Rattle.sq_config.specs.declared.configuration.Block.{Block}
+use Rattle.sq_plan.specs.declared.entries.Purpose.{Purpose}
+use Rattle.sq_plan.specs.declared.entries.Purpose.TheVariants.{Schema, Queries}
 use Rattle.sq_run.specs.declared.judge.Judged.{Judged}
-use Rattle.sq_run.specs.declared.outputs.Output.{Output}
+use Rattle.sq_plan.specs.declared.outputs.Output.{Output}
 use Rattle.sq_run.specs.declared.query.Query.{Query}
 use Rattle.sq_run.specs.declared.sources.SourceFile.{SourceFile}
-use Rattle.sq_run.specs.declared.status.Status.{Status}
-use Rattle.sq_run.specs.declared.status.Status.TheVariants.{Done}
-use Rattle.sq_run.specs.Asked.{each_judged}
-use Rattle.sq_run.specs.CommandLine.{request_of}
+use Rattle.sq_plan.specs.declared.status.Status.{Status}
+use Rattle.sq_plan.specs.declared.status.Status.TheVariants.{Done}
+use Rattle.sq_plan.specs.Asked.{each_judged}
+use Rattle.sq_config.specs.CommandLine.{request_of}
 use Rattle.sq_run.specs.Judged.{judged}
-use Rattle.sq_run.specs.Project.{output_of_entry, configured, catalogue_of, declared, placed, task_asked}
+use Rattle.sq_plan.specs.Outputs.{output_of_entry}
+use Rattle.sq_run.specs.Project.{configured, catalogue_of, declared, placed, task_asked}
 use Rattle.sq_run.specs.Query.{query_of}
 use Rattle.sq_run.specs.Run.{Outside, files_asked}
-use Rattle.sq_run.specs.Sources.{found_for, bytes_read}
-use Rattle.sq_run.specs.Statements.{select, ◌>>=◌}
+use Rattle.sq_plan.specs.Sources.{found_for, bytes_read}
+use Rattle.sq_plan.specs.Options.{◌>>=◌}
+use Rattle.sq_run.specs.Statements.{select}
 
 -- what was judged, where it was not refused
 abbrev pub accepted : {A : Type 0} → Result A Refusal → Option A
@@ -46,15 +51,17 @@ accepted (Err refusal) = None
 abbrev pub judged_text : Contents → List ℕ → Option Judged
 judged_text contents text = accepted (token_list 1 text) >>= select >>= λ query. accepted (judged contents query)
 
--- each row that is returned fits the printed columns
-abbrev pub ReturnsFit : List ShownField → Rows → Type 0
-ReturnsFit columns answer = AllByRecursion (RowFitsPrinted columns) answer.rows
+-- each row that is returned fits these printed forms
+abbrev pub ReturnsFit : Contents → List Form → Outcomes → Type 0
+ReturnsFit contents forms answer = AllByRecursion (RowFitsPrinted Go contents forms) answer.rows
 
--- On every database that fits the catalogue, and with every oracle, a statement without parameters is not stuck,
--- and each row that it returns fits the printed columns, null included.
-abbrev pub RunsAsPrinted : Contents → CoreStatement → List ShownField → Type 0
-RunsAsPrinted contents core columns =
-    (database : Database) (arguments : List ClientValue) → DatabaseFits contents database → ArgumentsFit [] arguments → Keeps (ReturnsFit columns) (run Go contents [] core database arguments)
+-- The printed columns have the texts of these outputs' forms. On every database that fits the catalogue, and with
+-- every oracle, a statement without parameters is not stuck, and each row that it returns fits these forms, null included.
+pub record RunsAsPrinted (contents : Contents) (core : CoreStatement) (outputs : List OutputColumn) (columns : List ShownField) : Type 0 where
+  pub prints : AllZip (Prints Go contents) outputs columns
+  pub runs : (database : Database) (arguments : List ClientValue) → DatabaseFits contents database
+      → ArgumentsFit Go contents [] arguments
+      → Keeps (ReturnsFit contents (map (output_form Go contents) outputs)) (run Go contents [] core database arguments)
 
 -- the file at a path was read: it is held, and what is read of its bytes has these tokens
 pub record IsSource (purpose : Purpose) (held : List File) (path : List ℕ) (file : SourceFile) : Type 0 where
@@ -81,7 +88,7 @@ pub record SaysQuery (contents : Contents) (file : SourceFile) (signature : Show
   -- the text that is read back is judged to be the same
   pub text : judged_text contents signature.text ≡ Some found
   -- and it runs so
-  pub runs : RunsAsPrinted contents found.core signature.columns
+  pub runs : RunsAsPrinted contents found.core found.columns signature.columns
 
 -- files were put in the output's folder, are held there, and read as exactly these signatures
 pub record IsWritten (signatures : List Shown) (now : List File) (output : Output) (put : List File) : Type 0 where

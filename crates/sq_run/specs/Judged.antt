@@ -1,40 +1,30 @@
 -- What a query of the first forms is judged to be.
 use Rattle.std.specs.Prelude.{◌≡◌, ⊤, ℕ, ◌==◌, ◌&&◌, not, nat_le, Bool, if◌then◌else◌, List, [], ◌∷◌, ◌++◌, length, zip, codes, Option, None, Some, Result, Ok, Err}
+use Rattle.sq_base.specs.Refusals.{refused_naming}
+use Rattle.sq_base.specs.declared.code.Code.{Code}
+use Rattle.sq_base.specs.declared.code.Code.TheVariants as code
 use Rattle.std.specs.List.{list_all}
 use Rattle.std.specs.Str.{bytes_eq}
 use Rattle.sq_base.specs.declared.refusal.Refusal.{Refusal}
-use Rattle.sq_base.specs.declared.refusal.Fault.{Fault}
-use Rattle.sq_base.specs.declared.refusal.Fault.TheVariants.{Refused, Memory}
 use Rattle.sq_catalog.specs.Contents.{Contents}
 use Rattle.sq_catalog.specs.Catalogue.{placed_table, placed_column}
 use Rattle.sq_catalog.specs.declared.table.Column.{Column as TableColumn}
 use Rattle.sq_catalog.specs.declared.table.Table.{Table}
 use Rattle.sq_core.specs.declared.node.Node.{Node}
 use Rattle.sq_core.specs.declared.node.Node.TheVariants.{Column}
-use Rattle.sq_core.specs.declared.signature.Output.{Output}
-use Rattle.sq_core.specs.Sound.{select}
+use Rattle.sq_shown.specs.declared.signature.Output.{Output}
+use Rattle.sq_core.specs.Columns.{own_slot, select}
 use Rattle.sq_run.specs.declared.statements.Named.{Named}
 use Rattle.sq_run.specs.declared.statements.Select.{Select}
 use Rattle.sq_run.specs.declared.judge.Judged.{Judged}
 
--- what was answered is this, unless memory was wanting
-abbrev pub Answers : {A : Type 0} → Result A Refusal → Result A Fault → Type 0
-Answers wanted (Ok value) = wanted ≡ Ok value
-Answers wanted (Err (Refused refusal)) = wanted ≡ Err refusal
-Answers wanted (Err Memory) = ⊤
-
--- the fault is this refusal, unless memory was wanting
-abbrev pub IsFaultOf : Refusal → Fault → Type 0
-IsFaultOf wanted (Refused refusal) = refusal ≡ wanted
-IsFaultOf wanted Memory = ⊤
-
--- a name is refused: no table has it (10), or no column (11)
-abbrev pub unknown : ℕ → Named → Refusal
-unknown number named = record { number = number; place = named.place; first = named.name; second = [] }
+-- a name is refused
+abbrev pub unknown : Code → Named → Refusal
+unknown code named = refused_naming code named.place named.name
 
 -- a column of the table, by its place there
 abbrev pub node_of : ℕ → TableColumn → Node
-node_of place column = Column 0 0 place column.of
+node_of place column = Column (own_slot place) column.of
 
 -- a column of the rows: it may be null where the table's may be
 abbrev pub output_of : TableColumn → Output
@@ -49,7 +39,7 @@ after_these nodes outputs (Err refusal) = Err refusal
 abbrev pub judged_names : Table → List Named → Result (List Node × List Output) Refusal
 judged_names table [] = Ok ([], [])
 judged_names table (named ∷ later) = elim (placed_column table named.name) [
-  | None ↦ Err (unknown 11 named)
+  | None ↦ Err (unknown code.UnknownColumn named)
   | Some found ↦ after_these (node_of found.0 found.1 ∷ []) (output_of found.1 ∷ []) (judged_names table later)
 ]
 
@@ -73,6 +63,6 @@ judged_select place table (Err refusal) = Err refusal
 -- a query over the catalogue: first its table, then its names
 unfoldable pub judged : Contents → Select → Result Judged Refusal
 judged contents query = elim (placed_table contents (codes "public") query.table.name) [
-  | None ↦ Err (unknown 10 query.table)
+  | None ↦ Err (unknown code.UnknownTable query.table)
   | Some found ↦ judged_select found.0 found.1 (judged_names found.1 query.outputs)
 ]

@@ -1,5 +1,8 @@
 -- What the program makes of the files held.
 use Rattle.std.specs.Prelude.{◌≡◌, ℕ, Bool, true, false, nat_le, if◌then◌else◌, List, [], ◌∷◌, ◌++◌, map, length, drop, Option, None, Some, is_some, Result, Ok, Err}
+use Rattle.sq_base.specs.Refusals.{refused}
+use Rattle.sq_base.specs.declared.code.Code.{Code}
+use Rattle.sq_base.specs.declared.code.Code.TheVariants as code
 use Rattle.std.specs.Option.{option_map}
 use Rattle.sq_base.specs.Files.{bytes_at}
 use Rattle.sq_base.specs.Tree.{TreeState}
@@ -7,74 +10,55 @@ use Rattle.sq_base.specs.declared.file.File.{File}
 use Rattle.sq_base.specs.declared.refusal.Refusal.{Refusal}
 use Rattle.sq_catalog.specs.Contents.{Contents}
 use Rattle.sq_catalog.specs.declared.table.Table.{Table}
-use Rattle.sq_core.specs.Identifiers.{package_name}
-use Rattle.sq_core.specs.Layout.{layout}
-use Rattle.sq_core.specs.Names.{clash}
-use Rattle.sq_core.specs.declared.declaration.ModelDecl.{ModelDecl}
-use Rattle.sq_core.specs.declared.declaration.QueryFile.{QueryFile}
-use Rattle.sq_core.specs.declared.declaration.QuerySig.{QuerySig}
-use Rattle.sq_core.specs.declared.signature.Command.TheVariants.{Many}
+use Rattle.sq_shown.specs.Identifiers.{package_name}
+use Rattle.sq_shown.specs.Layout.{layout}
+use Rattle.sq_shown.specs.Names.{clash}
+use Rattle.sq_shown.specs.declared.declaration.ModelDecl.{ModelDecl}
+use Rattle.sq_shown.specs.declared.declaration.QueryFile.{QueryFile}
+use Rattle.sq_shown.specs.declared.declaration.QuerySig.{QuerySig}
+use Rattle.sq_shown.specs.declared.signature.Command.TheVariants.{Many}
 use Rattle.sq_lexer.specs.TokenList.{token_list}
 use Rattle.sq_syntax.specs.declared.token.Token.{Token}
-use Rattle.sq_run.specs.declared.halt.Finding.{Finding}
-use Rattle.sq_run.specs.declared.halt.Finding.TheVariants.{Configuration as InConfiguration, Source as InSource}
-use Rattle.sq_run.specs.declared.halt.Halt.{Halt}
-use Rattle.sq_run.specs.declared.halt.Halt.TheVariants.{Usage}
-use Rattle.sq_run.specs.declared.judge.Judged.{Judged}
-use Rattle.sq_run.specs.declared.command_line.Request.{Request}
-use Rattle.sq_run.specs.declared.command_line.Task.{Task}
-use Rattle.sq_run.specs.declared.command_line.Task.TheVariants.{Generate, Compile}
-use Rattle.sq_run.specs.declared.configuration.BadConfiguration.{BadConfiguration}
-use Rattle.sq_run.specs.declared.configuration.Block.{Block}
-use Rattle.sq_run.specs.declared.configuration.Configuration.{Configuration as Configured}
-use Rattle.sq_run.specs.declared.configuration.Entry.{Entry}
-use Rattle.sq_run.specs.declared.configuration.OptionPair.{OptionPair}
-use Rattle.sq_run.specs.declared.entries.Purpose.{Purpose}
-use Rattle.sq_run.specs.declared.entries.Purpose.TheVariants.{Schema, Queries}
-use Rattle.sq_run.specs.declared.outputs.Output.{Output}
+use Rattle.sq_plan.specs.declared.halt.Finding.{Finding}
+use Rattle.sq_plan.specs.Findings.{in_source, of_whole}
+use Rattle.sq_plan.specs.declared.halt.Ending.{Ending}
+use Rattle.sq_plan.specs.declared.halt.Ending.TheVariants.{Usage, Judged}
+use Rattle.sq_run.specs.declared.judge.Judged.{Judged as JudgedQuery}
+use Rattle.sq_config.specs.declared.command_line.Request.{Request}
+use Rattle.sq_config.specs.declared.command_line.Task.{Task}
+use Rattle.sq_config.specs.declared.command_line.Task.TheVariants.{Generate, Compile}
+use Rattle.sq_config.specs.declared.configuration.BadConfiguration.{BadConfiguration}
+use Rattle.sq_config.specs.declared.configuration.Block.{Block}
+use Rattle.sq_config.specs.declared.configuration.Configuration.{Configuration as Configured}
+use Rattle.sq_config.specs.declared.configuration.Entry.{Entry}
+use Rattle.sq_config.specs.declared.configuration.OptionPair.{OptionPair}
+use Rattle.sq_plan.specs.declared.entries.Purpose.{Purpose}
+use Rattle.sq_plan.specs.declared.entries.Purpose.TheVariants.{Schema, Queries}
+use Rattle.sq_plan.specs.declared.outputs.Output.{Output}
 use Rattle.sq_run.specs.declared.query.Query.{Query}
-use Rattle.sq_run.specs.declared.read.Role.{Role}
+use Rattle.sq_plan.specs.declared.read.Role.{Role}
 use Rattle.sq_run.specs.declared.sources.SourceFile.{SourceFile}
-use Rattle.sq_run.specs.declared.sources.TheConstants.{MOST_FILES}
-use Rattle.sq_run.specs.declared.read.Role.TheVariants.{Configuration, Source}
-use Rattle.sq_run.specs.declared.read.TheConstants.{LIMIT}
-use Rattle.sq_run.specs.Asked.{Asked, Follows, nothing_asked, and_then, gathered, each_judged}
-use Rattle.sq_run.specs.CommandLine.{request_of}
-use Rattle.sq_run.specs.Configuration.{configuration_of}
+use Rattle.sq_base.specs.declared.limits.TheConstants.{MOST_FILES}
+use Rattle.sq_plan.specs.declared.read.Role.TheVariants.{Configuration, Source}
+use Rattle.sq_base.specs.declared.limits.TheConstants.{MOST_FILE_BYTES}
+use Rattle.sq_plan.specs.Asked.{Asked, Follows, nothing_asked, and_then, gathered, each_judged}
+use Rattle.sq_config.specs.CommandLine.{request_of}
+use Rattle.sq_config.specs.Configuration.{configuration_of}
 use Rattle.sq_run.specs.Judged.{judged, output_of}
 use Rattle.sq_run.specs.Parsed.{statement_check}
-use Rattle.sq_run.specs.Paths.{folder_of}
+use Rattle.sq_config.specs.Paths.{folder_of}
 use Rattle.sq_run.specs.Query.{named_statement, query_in}
-use Rattle.sq_run.specs.Sources.{found_at, bytes_read}
+use Rattle.sq_plan.specs.Reading.{refused_file, not_yet, whole_file, listed}
+use Rattle.sq_plan.specs.Sources.{bytes_read}
+use Rattle.sq_plan.specs.Outputs.{output_of_entry}
 pub use Rattle.sq_run.specs.Schema.{catalogue_of}
 
--- a file is refused by a number
-abbrev pub refused_file : Role → ℕ → List ℕ → Finding
-refused_file Configuration number path = InConfiguration path number []
-refused_file Source number path = InSource path (record { number = number; place = record { file = 0; line = 1; column = 1 }; first = []; second = [] })
-
--- a file with a form that isn't built yet
-abbrev pub not_yet : Role → List ℕ → Finding
-not_yet role path = refused_file role 99 path
-
--- the bytes of a file, unless it is too long
-abbrev pub checked : Role → List ℕ → List ℕ → Result (List ℕ) (List Finding)
-checked role path bytes = if nat_le (length bytes) LIMIT then Ok bytes else Err (refused_file role 8 path ∷ [])
-
--- reads the file at a path
-abbrev pub whole_file : Role → List ℕ → List File → Asked (List ℕ)
-whole_file role path files = record { paths = path ∷ []; answer = option_map (checked role path) (bytes_at files path) }
-
 -- SOURCES: the files of one key of a block
-
--- lists a path
-abbrev pub listed : Purpose → List ℕ → List File → Asked (List (List ℕ))
-listed purpose path files = record { paths = path ∷ []; answer = option_map (λ found. Ok found) (found_at purpose path files) }
 
 -- paths, where none of these is too many
 abbrev pub unless_more : List (List ℕ) → List (List ℕ) → Result (List (List ℕ)) (List Finding)
 unless_more paths [] = Ok paths
-unless_more paths (path ∷ more) = Err (refused_file Source 9 path ∷ [])
+unless_more paths (path ∷ more) = Err (refused_file Source code.TooManyFiles path ∷ [])
 
 -- the files of a key, unless they are too many
 abbrev pub counted : List (List ℕ) → Result (List (List ℕ)) (List Finding)
@@ -83,7 +67,7 @@ counted paths = unless_more paths (drop MOST_FILES paths)
 -- a source with its tokens, unless its bytes have none
 abbrev pub with_tokens : List ℕ → Result (List Token) Refusal → Result (List SourceFile) (List Finding)
 with_tokens path (Ok tokens) = Ok (record { path = path; tokens = tokens } ∷ [])
-with_tokens path (Err refusal) = Err (InSource path refusal ∷ [])
+with_tokens path (Err refusal) = Err (in_source path refusal ∷ [])
 
 -- reads the source at a path, which has this number among those of its key
 abbrev pub source : Purpose → ℕ → List ℕ → List File → Asked (List SourceFile)
@@ -96,21 +80,12 @@ sources purpose paths files =
     and_then (nothing_asked (counted found)) (λ few.
     gathered (source purpose) 0 few files))
 
--- OUTPUTS: of each entry, which has no options so far
-
--- the output of an entry with these options
-abbrev pub output_by : List ℕ → Entry → List OptionPair → Result (List Output) (List Finding)
-output_by path entry [] = Ok (record { path = entry.path; package_name = package_name entry.options.out } ∷ [])
-output_by path entry (pair ∷ pairs) = Err (not_yet Configuration path ∷ [])
-
--- the output of an entry
-abbrev pub output_of_entry : List ℕ → Entry → Result (List Output) (List Finding)
-output_of_entry path entry = output_by path entry entry.options.pairs
+-- CONFIGURATION
 
 -- the blocks of a configuration, unless this is refused
 abbrev pub configured_by : List ℕ → Result Configured BadConfiguration → Result (List Block) (List Finding)
 configured_by path (Ok configuration) = Ok configuration.blocks
-configured_by path (Err bad) = Err (InConfiguration path bad.number bad.first ∷ [])
+configured_by path (Err bad) = Err (of_whole path bad.code bad.first ∷ [])
 
 -- the blocks that the bytes of the configuration at a path ask for
 abbrev pub configured : List ℕ → List ℕ → Result (List Block) (List Finding)
@@ -131,20 +106,20 @@ abbrev pub file_name : List ℕ → List ℕ
 file_name path = drop (length (folder_of path)) path
 
 -- the declaration of a judged query
-abbrev pub declared : Query → Judged → QuerySig
+abbrev pub declared : Query → JudgedQuery → QuerySig
 declared query judged = record {
   signature = record { name = query.name; command = Many; text = query.text; params = []; columns = judged.columns };
   model = judged.model;
 }
 
 -- a file of queries at a path, with this one
-abbrev pub file_with : List ℕ → Query → Judged → QueryFile
+abbrev pub file_with : List ℕ → Query → JudgedQuery → QueryFile
 file_with path query judged = record { source = file_name path; queries = declared query judged ∷ [] }
 
 -- the file of queries with what a query is judged to be
-abbrev pub file_by : List ℕ → Query → Result Judged Refusal → Result (List QueryFile) (List Finding)
+abbrev pub file_by : List ℕ → Query → Result JudgedQuery Refusal → Result (List QueryFile) (List Finding)
 file_by path query (Ok judged) = Ok (file_with path query judged ∷ [])
-file_by path query (Err refusal) = Err (InSource path refusal ∷ [])
+file_by path query (Err refusal) = Err (in_source path refusal ∷ [])
 
 -- the file of queries with the query that was read
 abbrev pub file_of : Contents → List ℕ → Option Query → Result (List QueryFile) (List Finding)
@@ -154,7 +129,7 @@ file_of contents path None = Err (not_yet Source path ∷ [])
 -- the file of queries with what its statement is, where this is read
 abbrev pub file_read : Contents → List ℕ → Option Query → Result (Unit {0}) Refusal → Result (List QueryFile) (List Finding)
 file_read contents path query (Ok read) = file_of contents path query
-file_read contents path query (Err refusal) = Err (InSource path refusal ∷ [])
+file_read contents path query (Err refusal) = Err (in_source path refusal ∷ [])
 
 -- the file of queries with its one named statement
 abbrev pub file_named : Contents → List ℕ → Option (List ℕ × List Token) → Result (List QueryFile) (List Finding)
@@ -229,6 +204,8 @@ abbrev pub asked_by : List (List ℕ) → List File → Asked (List File)
 asked_by words files = asked_for (request_of words) files
 
 -- how the judging of a run ends, by whether its words are a command: other words ask nothing
-abbrev pub Judging : List (List ℕ) → Bool → TreeState → TreeState → Result (List File) Halt → Type 0
-Judging words true old new ending = Follows (asked_by words) old new ending
-Judging words false old new ending = (new ≡ old) × (ending ≡ Err Usage)
+abbrev pub Judging : List (List ℕ) → Bool → TreeState → TreeState → Ending → Type 0
+Judging words true old new (Judged result) = Follows (asked_by words) old new result
+Judging words true old new Usage = ⊥
+Judging words false old new (Judged result) = ⊥
+Judging words false old new Usage = new ≡ old

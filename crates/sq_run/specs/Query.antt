@@ -8,7 +8,8 @@ use Rattle.sq_syntax.specs.declared.token.TokenKind.{TokenKind}
 use Rattle.sq_syntax.specs.declared.token.TokenKind.TheVariants.{Note}
 use Rattle.sq_run.specs.declared.query.Query.{Query}
 use Rattle.sq_run.specs.Names.{is_identifier}
-use Rattle.sq_run.specs.Statements.{Part, one_statement, select, ◌>>=◌}
+use Rattle.sq_plan.specs.Options.{◌>>=◌}
+use Rattle.sq_run.specs.Statements.{Part, one_statement, select}
 
 -- the rest of a text behind a front
 abbrev pub behind : List ℕ → List ℕ → Option (List ℕ)

@@ -8,16 +8,17 @@ use Rattle.sq_base.specs.Tree.{TreeState}
 use Rattle.sq_base.specs.Out.{OutState}
 use Rattle.sq_base.specs.Sink.{SinkState, Appends}
 use Rattle.sq_base.specs.declared.file.File.{File}
-use Rattle.sq_run.specs.declared.halt.Finding.{Finding}
-use Rattle.sq_run.specs.declared.halt.Halt.{Halt}
-use Rattle.sq_run.specs.declared.status.Status.{Status}
-use Rattle.sq_run.specs.declared.status.Status.TheVariants.{Done, Refused, Usage, ReadFault, WriteFault, Memory, Missing}
-use Rattle.sq_run.specs.declared.deliver.Report.{Report}
-use Rattle.sq_run.specs.declared.deliver.PutFault.{PutFault}
-use Rattle.sq_run.specs.Lines.{finding_line, usage_lines}
-use Rattle.sq_run.specs.Asked.{EndsAt}
-use Rattle.sq_run.specs.Deliver.{PutsAll, Shows, TellsMemory, files_of, report_of, missing_line}
-use Rattle.sq_run.specs.Project.{is_command, asked_by, Judging}
+use Rattle.sq_plan.specs.declared.halt.Finding.{Finding}
+use Rattle.sq_config.specs.declared.command_line.Task.TheVariants.{Compile}
+use Rattle.sq_plan.specs.declared.halt.Ending.{Ending}
+use Rattle.sq_plan.specs.declared.status.Status.{Status}
+use Rattle.sq_plan.specs.declared.status.Status.TheVariants.{Done, Refused, Usage, ReadFault, WriteFault, Memory, Missing}
+use Rattle.sq_plan.specs.declared.deliver.Report.{Report}
+use Rattle.sq_plan.specs.declared.deliver.PutFault.{PutFault}
+use Rattle.sq_plan.specs.Lines.{finding_line, usage_lines}
+use Rattle.sq_plan.specs.Asked.{EndsAt}
+use Rattle.sq_plan.specs.Deliver.{PutsAll, Shows, TellsMemory, files_of, report_of, missing_line}
+use Rattle.sq_run.specs.Project.{is_command, task_asked, asked_by, Judging}
 
 -- all that a run meets outside
 pub record Outside : Type 0 where
@@ -34,9 +35,10 @@ Tells report old new status = ((shown : Report) × (report ≡ Some shown) × Sh
 
 -- a run: it judges, then puts, then prints
 pub record IsRun (words : List (List ℕ)) (before after : Outside) (status : Status) : Type 0 where
-  pub ending : Result (List File) Halt
+  pub ending : Ending
   pub put : Result (Unit {0}) PutFault
   pub judging : Judging words (is_command words) before.tree after.tree ending
+  pub compiling : task_asked words ≡ Some Compile → files_of ending ≡ []
   pub putting : PutsAll (files_of ending) before.out after.out put
   pub telling : Tells (report_of ending put) before.screen after.screen status
 

@@ -1,5 +1,8 @@
 -- The catalogue that the files of a schema make, statement by statement.
 use Rattle.std.specs.Prelude.{ℕ, nat_lt, ◌&&◌, not, Bool, true, false, if◌then◌else◌, List, [], ◌∷◌, ◌++◌, length, map, filter, Option, None, Some, is_some, slice_get, Result, Ok, Err}
+use Rattle.sq_base.specs.Refusals.{refused}
+use Rattle.sq_base.specs.declared.code.Code.TheVariants as code
+use Rattle.sq_base.specs.declared.limits.TheConstants.{MOST_TOKENS, MOST_DEPTH}
 use Rattle.std.specs.List.{list_all, slice_split}
 use Rattle.sq_base.specs.declared.refusal.Refusal.{Refusal}
 use Rattle.sq_base.specs.declared.types.PgType.{PgType}
@@ -13,14 +16,13 @@ use Rattle.sq_grammar.specs.Schemas.{ddl}
 use Rattle.sq_grammar.specs.Whole.{whole}
 use Rattle.sq_lexemes.specs.Answers.{first_place}
 use Rattle.sq_migrate.specs.Replay.{Replayed, replayed}
-use Rattle.sq_parse_stmt.specs.PassedOver.{passed_over}
+use Rattle.sq_parse_ddl.specs.PassedOver.{passed_over}
 use Rattle.sq_syntax.specs.Grammar.{nesting_depth}
 use Rattle.sq_syntax.specs.Symbols.{lexeme}
-use Rattle.sq_syntax.specs.Tokens.{refusal}
 use Rattle.sq_syntax.specs.declared.ddl.Ddl.{Ddl}
 use Rattle.sq_syntax.specs.declared.token.Token.{Token}
-use Rattle.sq_run.specs.declared.halt.Finding.{Finding}
-use Rattle.sq_run.specs.declared.halt.Finding.TheVariants.{Configuration as InConfiguration, Source as InSource}
+use Rattle.sq_plan.specs.declared.halt.Finding.{Finding}
+use Rattle.sq_plan.specs.Findings.{in_source, of_whole}
 use Rattle.sq_run.specs.declared.sources.SourceFile.{SourceFile}
 use Rattle.sq_run.specs.Statements.{is_end, is_no_note}
 
@@ -34,16 +36,16 @@ without_notes tokens = filter (λ (token : Token). is_no_note token.kind) tokens
 abbrev pub statements : List Token → List (List Token)
 statements tokens = slice_split is_end tokens
 
--- the statement that was read, or the refusal (6) of tokens that spell none
+-- the statement that was read, or the refusal of tokens that spell none
 abbrev pub spelled : List Token → Option Ddl → Result (Option Ddl) Refusal
 spelled tokens (Some statement) = Ok (Some statement)
-spelled tokens None = Err (refusal 6 (first_place tokens))
+spelled tokens None = Err (refused code.Syntax (first_place tokens))
 
 -- the statement that tokens spell, where they are not too many (4) and do not nest too deep (5)
 abbrev pub read_within : List Token → Result (Option Ddl) Refusal
 read_within tokens =
-    if nat_lt 16384 (length tokens) then Err (refusal 4 (first_place tokens))
-    else (if nat_lt 64 (nesting_depth tokens) then Err (refusal 5 (first_place tokens)) else spelled tokens (whole ddl tokens))
+    if nat_lt MOST_TOKENS (length tokens) then Err (refused code.TooLong (first_place tokens))
+    else (if nat_lt MOST_DEPTH (nesting_depth tokens) then Err (refused code.TooNested (first_place tokens)) else spelled tokens (whole ddl tokens))
 
 -- the statement that tokens spell, and none where they are passed over; each refusal is at the first token
 unfoldable pub read_ddl : List Token → Result (Option Ddl) Refusal
@@ -65,7 +67,7 @@ made contents findings = record { contents = contents; findings = findings }
 
 -- refusals in the file at a path
 abbrev pub found_at : List ℕ → List Refusal → List Finding
-found_at path refusals = map (λ refusal. InSource path refusal) refusals
+found_at path refusals = map (λ refusal. in_source path refusal) refusals
 
 -- a statement was replayed
 abbrev pub after_replay : List ℕ → List Finding → Replayed → Made
@@ -131,7 +133,7 @@ is_built contents = not (has_enums contents) && (not (has_domains contents) && l
 
 -- the catalogue of a schema without a refusal, or a form that isn't built yet
 abbrev pub catalogue_by : List ℕ → Contents → List Finding → Result Contents (List Finding)
-catalogue_by path contents [] = if is_built contents then Ok contents else Err (InConfiguration path 99 [] ∷ [])
+catalogue_by path contents [] = if is_built contents then Ok contents else Err (of_whole path code.NotYet [] ∷ [])
 catalogue_by path contents (finding ∷ findings) = Err (finding ∷ findings)
 
 -- what a schema is judged to be, of a block in the configuration at this path

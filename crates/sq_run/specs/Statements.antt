@@ -9,12 +9,8 @@ use Rattle.sq_syntax.specs.declared.token.TokenKind.{TokenKind}
 use Rattle.sq_syntax.specs.declared.token.TokenKind.TheVariants.{Word, Note, Punct}
 use Rattle.sq_run.specs.declared.statements.Named.{Named}
 use Rattle.sq_run.specs.declared.statements.Select.{Select}
+use Rattle.sq_plan.specs.Options.{◌>>=◌}
 use Rattle.sq_run.specs.Names.{same_word, name_text}
-
-infixl 10 ◌>>=◌
-abbrev pub ◌>>=◌ : {A B : Type 0} → Option A → (A → Option B) → Option B
-None >>= f = None
-(Some x) >>= f = f x
 
 -- a part of a statement, and the tokens after it
 abbrev pub Part : Type 0 → Type 0

@@ -1,19 +1,16 @@
 //! The blocks of a configuration are read and judged, one after the other. `configuration` is its path.
 
 ghost use Rattle.std.specs.Prelude.{◌≡◌};
-ghost use Rattle.sq_run.specs.Asked.{Follows};
+ghost use Rattle.sq_plan.specs.Asked.{Follows};
 ghost use Rattle.sq_run.specs.Project.{block_files, all_files};
 
-use crate::Halt;
-use crate::configuration::Block;
 use crate::declare::declare_queries;
-use crate::entries::Purpose;
-use crate::joining::{ending, join};
-use crate::outputs::outputs_of;
 use crate::schema::catalogue_of;
 use crate::sources::read_sources;
 use crate::write::write;
 use sq_base::{File, List, Tree};
+use sq_config::Block;
+use sq_plan::{Halt, Purpose, ending, join, outputs_of};
 use std::alloc::Global;
 
 /// Reads a block and judges it.

@@ -1,23 +1,20 @@
 //! The declarations that a writer is given.
 
 ghost use Rattle.std.specs.Prelude.{◌≡◌, ◌∷◌, [], map, IfOk};
-ghost use Rattle.sq_run.specs.Asked.{Judges, each_judged};
+ghost use Rattle.sq_plan.specs.Asked.{Judges, each_judged};
 ghost use Rattle.sq_run.specs.Judged.{judged, output_of};
 ghost use Rattle.sq_run.specs.Project;
 ghost use Rattle.sq_run.specs.Parsed.{statement_check};
 ghost use Rattle.sq_run.specs.Project.{declared, declared_in, file_by, file_name, file_of, file_read, file_with};
 ghost use Rattle.sq_run.specs.Query.{query_in};
 
-use crate::Halt;
-use crate::joining::{ending, join};
 use crate::judge::{Judged, judge, output_of};
 use crate::query::{Query, check_statement, named_statement, read_query};
-use crate::read::{Role, refuse, refuse_source};
 use crate::sources::SourceFile;
-use crate::statements::NoForm;
-use sq_base::{Fault, List, Name};
+use sq_base::{Code, Fault, List, Name, NoForm};
 use sq_catalog::{Catalogue, Table};
-use sq_core::{Command, ModelDecl, Output as Column, QueryFile, QuerySig, Signature};
+use sq_plan::{Halt, Role, Spot, ending, join, refuse, refuse_file};
+use sq_shown::{Command, ModelDecl, Output as Column, QueryFile, QuerySig, Signature};
 use sq_syntax::Token;
 use std::alloc::{AllocError, Global};
 
@@ -111,7 +108,7 @@ fn judge_query(
 {
     let judged = match judge(alloc, catalogue, &query.select) {
         Ok(judged) => judged,
-        Err(Fault::Refused(refusal)) => return Err(refuse_source(alloc, path, refusal)),
+        Err(Fault::Refused(refusal)) => return Err(refuse(alloc, path, Spot::Placed, refusal)),
         Err(Fault::Memory) => return Err(Halt::Memory),
     };
     match one_file(alloc, path, query, judged) {
@@ -132,7 +129,7 @@ fn judge_select(
 {
     match read_query(alloc, name, statement) {
         Ok(query) => judge_query(alloc, catalogue, path, query),
-        Err(NoForm::Other) => Err(refuse(alloc, Role::Source, path)),
+        Err(NoForm::Absent) => Err(refuse_file(alloc, Role::Source, Code::NotYet, path)),
         Err(NoForm::Memory) => Err(Halt::Memory),
     }
 }
@@ -149,7 +146,7 @@ fn judge_statement(
 {
     match check_statement(alloc, statement) {
         Ok(()) => judge_select(alloc, catalogue, path, name, statement),
-        Err(Fault::Refused(refusal)) => Err(refuse_source(alloc, path, refusal)),
+        Err(Fault::Refused(refusal)) => Err(refuse(alloc, path, Spot::Placed, refusal)),
         Err(Fault::Memory) => Err(Halt::Memory),
     }
 }
@@ -165,7 +162,7 @@ fn declared_in(
     let path = file.path.as_str();
     match named_statement(alloc, file.tokens.as_slice()) {
         Ok((name, statement)) => judge_statement(alloc, catalogue, path, name, statement),
-        Err(NoForm::Other) => Err(refuse(alloc, Role::Source, path)),
+        Err(NoForm::Absent) => Err(refuse_file(alloc, Role::Source, Code::NotYet, path)),
         Err(NoForm::Memory) => Err(Halt::Memory),
     }
 }

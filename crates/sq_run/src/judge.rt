@@ -1,14 +1,18 @@
 ghost use Rattle.std.specs.Prelude.{◌≡◌, IfOk};
-ghost use Rattle.sq_run.specs.Judged.{Answers, IsFaultOf, unknown, node_of, output_of, judged_names, judged_select, have_names, are_all_columns, model_used, judged};
+ghost use Rattle.sq_base.specs.Answers.{Gives as Answers, IsFaultOf};
+ghost use Rattle.sq_core.specs.Columns.{select};
+ghost use Rattle.sq_run.specs.Judged.{unknown, node_of, output_of, judged_names, judged_select, have_names, are_all_columns, model_used, judged};
 
 use crate::statements::{Named, Select};
-use sq_base::{Fault, List, Name, Refusal};
+use sq_base::{Code, Fault, List, Name, Refusal};
 use sq_catalog::{Catalogue, Column, Table, placed_column};
-use sq_core::{CoreStatement, Node, Output, Query};
+use sq_core::{CoreStatement, Manner, Node, Query, Slot, Source};
+use sq_shown::Output;
+use sqlite_items::{Boxed, Items};
 use std::alloc::{AllocError, Global};
 
 /// What a query is judged to be.
-#[derive(Debug, Drop)]
+#[derive(Drop)]
 pub struct Judged {
     pub core: CoreStatement,
     pub columns: List<Output>,
@@ -17,17 +21,12 @@ pub struct Judged {
 }
 
 /// Refuses a name.
-fn unknown(alloc: Global, number: u8, named: &Named) -> Fault
-    ensures { IsFaultOf (unknown number named.now) result }
+fn unknown(alloc: Global, code: Code, named: &Named) -> Fault
+    ensures { IsFaultOf (unknown code named.now) result }
 {
-    match (named.name.copy(alloc), Name::new(alloc, "")) {
-        (Ok(first), Ok(second)) => Fault::Refused(Refusal {
-            number,
-            place: named.place,
-            first,
-            second,
-        }),
-        _ => Fault::Memory,
+    match Refusal::naming(alloc, code, named.place, named.name.as_str()) {
+        Ok(refusal) => Fault::Refused(refusal),
+        Err(_) => Fault::Memory,
     }
 }
 
@@ -35,12 +34,12 @@ fn unknown(alloc: Global, number: u8, named: &Named) -> Fault
 fn node_of(place: usize, column: &Column) -> Node
     ensures { result ≡ node_of place column.now }
 {
-    Node::Column {
+    let slot = Slot {
         depth: 0,
         range: 0,
         column: place,
-        of: column.of,
-    }
+    };
+    Node::Column(slot, column.of)
 }
 
 /// A column of the rows.
@@ -59,10 +58,10 @@ fn judge_names(
     alloc: Global,
     table: &Table,
     names: &[Named],
-) -> Result<(List<Node>, List<Output>), Fault>
+) -> Result<(Items<Node>, List<Output>), Fault>
     ensures { Answers (judged_names table.now names.now) result }
 {
-    let mut nodes = List::new(alloc);
+    let mut nodes = Items::new(alloc);
     let mut outputs = List::new(alloc);
     for named in names {
         match placed_column(table, named.name.as_str()) {
@@ -70,7 +69,7 @@ fn judge_names(
                 nodes.push(node_of(place, column))?;
                 outputs.push(output_of(alloc, column)?)?;
             }
-            None => return Err(unknown(alloc, 11, named)),
+            None => return Err(unknown(alloc, Code::UnknownColumn, named)),
         }
     }
     Ok((nodes, outputs))
@@ -101,6 +100,28 @@ fn model_used(table: &Table, outputs: &[Output]) -> Option<u32>
     }
 }
 
+/// The SELECT of these nodes from the table at a place.
+fn select(alloc: Global, place: usize, outputs: Items<Node>) -> Result<CoreStatement, AllocError>
+    ensures { IfOk result (λ core. core ≡ select place outputs) }
+{
+    let mut from = Items::new(alloc);
+    from.push(Source::Table(place))?;
+    let query = Query::Select {
+        manner: Manner {
+            grouped: false,
+            distinct: false,
+            ordered: false,
+        },
+        from,
+        conditions: Items::new(alloc),
+        groups: Items::new(alloc),
+        having: Items::new(alloc),
+        outputs,
+        keys: Items::new(alloc),
+    };
+    Ok(CoreStatement::Select(Boxed::new(alloc, query)?))
+}
+
 /// A query for columns of the table at this place.
 fn judge_select(
     alloc: Global,
@@ -113,10 +134,7 @@ fn judge_select(
     let (nodes, columns) = judge_names(alloc, table, names)?;
     let model = model_used(table, columns.as_slice());
     Ok(Judged {
-        core: CoreStatement::Select(Query::Select {
-            table: place,
-            outputs: nodes,
-        }),
+        core: select(alloc, place, nodes)?,
         columns,
         model,
     })
@@ -129,6 +147,6 @@ pub fn judge(alloc: Global, catalogue: &Catalogue, query: &Select) -> Result<Jud
 {
     match catalogue.placed_table("public", query.table.name.as_str()) {
         Some((place, table)) => judge_select(alloc, place, table, query.outputs.as_slice()),
-        None => Err(unknown(alloc, 10, &query.table)),
+        None => Err(unknown(alloc, Code::UnknownTable, &query.table)),
     }
 }

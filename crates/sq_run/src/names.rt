@@ -4,10 +4,9 @@ ghost use Rattle.std.specs.Prelude.{◌≡◌, ◌≤◌, ◌++◌, ◌∷◌, L
 ghost use Rattle.std.specs.Str.{is_utf8, str_to_ascii_lowercase};
 ghost use Rattle.sq_run.specs.Names;
 ghost use Rattle.sq_run.specs.Names.{same_word, is_name_byte, is_identifier, is_among, is_reserved, word_name, inside, undoubled, undoubled_from, quoted_name, name_text};
-ghost use Rattle.sq_run.specs.Read.{Gives};
+ghost use Rattle.sq_base.specs.Answers.{Finds};
 
-use crate::statements::NoForm;
-use sq_base::{List, Name, fold, whole_front};
+use sq_base::{List, Name, NoForm, fold, whole_front};
 use sq_syntax::TokenKind;
 use std::alloc::{AllocError, Global};
 use std::str::from_utf8;
@@ -172,11 +171,11 @@ pub fn ascii(alloc: Global, bytes: &[u8]) -> Result<String, AllocError>
 /// The name of a word, which stands without quotes and is not reserved.
 #[tactic(auto, unfolding(crate::specs::Names::word_name))]
 fn word_name(alloc: Global, bytes: &[u8]) -> Result<Name, NoForm>
-    ensures { Gives (λ r. r) result (word_name bytes.now) }
+    ensures { Finds (λ r. r) result (word_name bytes.now) }
 {
     match text_of(bytes) {
         Some(text) if !is_reserved(bytes) => Ok(fold(alloc, text)?),
-        _ => Err(NoForm::Other),
+        _ => Err(NoForm::Absent),
     }
 }
 
@@ -226,23 +225,23 @@ fn text_of(bytes: &[u8]) -> Option<&str>
 /// The name in double quotes, cut as a word is.
 #[tactic(auto, unfolding(crate::specs::Names::quoted_name))]
 fn quoted_name(alloc: Global, bytes: &[u8]) -> Result<Name, NoForm>
-    ensures { Gives (λ r. r) result (quoted_name bytes.now) }
+    ensures { Finds (λ r. r) result (quoted_name bytes.now) }
 {
     let name = undoubled(alloc, inside(bytes))?;
     match text_of(name.as_slice()) {
         Some(text) => Ok(Name::new(alloc, whole_front(text))?),
-        None => Err(NoForm::Other),
+        None => Err(NoForm::Absent),
     }
 }
 
 /// The name that a token of this kind stands for.
 #[tactic(auto, unfolding(crate::specs::Names::name_text))]
 pub fn name_text(alloc: Global, kind: TokenKind, bytes: &[u8]) -> Result<Name, NoForm>
-    ensures { Gives (λ r. r) result (name_text kind bytes.now) }
+    ensures { Finds (λ r. r) result (name_text kind bytes.now) }
 {
     match kind {
         TokenKind::Word => word_name(alloc, bytes),
         TokenKind::Quoted => quoted_name(alloc, bytes),
-        _ => Err(NoForm::Other),
+        _ => Err(NoForm::Absent),
     }
 }

@@ -1,39 +1,31 @@
 //! What the words ask is judged, up to the files that are to be put.
 
-ghost use Rattle.std.specs.Prelude.{◌≡◌, ◌∷◌, [], map, string_bytes};
-ghost use Rattle.sq_run.specs.Asked.{Follows, Judges};
-ghost use Rattle.sq_run.specs.Halts.{IsRefusalOf};
-ghost use Rattle.sq_run.specs.Project.{configured, configuration_at, put_by, requested, is_command, Judging};
-ghost use Rattle.sq_run.specs.declared.halt.Finding.TheVariants.{Configuration as InConfiguration};
+ghost use Rattle.std.specs.Prelude.{◌≡◌, ◌∷◌, [], Some, IfOk, map, string_bytes};
+ghost use Rattle.sq_config.specs.declared.command_line.Task.TheVariants.{Compile};
+ghost use Rattle.sq_plan.specs.Asked.{Follows, Judges};
+ghost use Rattle.sq_plan.specs.Deliver.{files_of};
+ghost use Rattle.sq_plan.specs.Findings.{of_whole};
+ghost use Rattle.sq_plan.specs.Halts.{IsRefusalOf};
+ghost use Rattle.sq_run.specs.Project.{configured, configuration_at, put_by, requested, is_command, task_asked, Judging};
 
 use crate::blocks::judge_configured;
-use crate::command_line::{Task, read_words};
-use crate::configuration::{BadConfiguration, Block, Unread, configuration_of};
-use crate::paths::folder_of;
-use crate::read::{Role, one, read_whole};
-use crate::{Finding, Halt};
-use sq_base::{File, List, Name, Tree};
+use sq_base::{File, List, Name, Refusal, Tree};
+use sq_config::{BadConfiguration, Block, Task, Unread, configuration_of, folder_of, read_words};
+use sq_plan::{Ending, Halt, Role, START, Spot, read_whole, refuse};
 use std::alloc::Global;
 
 /// Refuses a configuration.
 fn refuse_configuration(alloc: Global, path: &str, bad: BadConfiguration) -> Halt
-    ensures { IsRefusalOf (InConfiguration path.now bad.number bad.first ∷ []) result }
+    ensures { IsRefusalOf (of_whole path.now bad.code bad.first ∷ []) result }
 {
-    let BadConfiguration { number, first } = bad;
-    let Ok(path) = Name::new(alloc, path) else {
-        return Halt::Memory;
+    let BadConfiguration { code, first } = bad;
+    let refusal = Refusal {
+        code,
+        place: START,
+        first,
+        second: Name::empty(alloc),
     };
-    match one(
-        alloc,
-        Finding::Configuration {
-            path,
-            number,
-            first,
-        },
-    ) {
-        Ok(findings) => Halt::Refused(findings),
-        Err(_) => Halt::Memory,
-    }
+    refuse(alloc, path, Spot::Whole, refusal)
 }
 
 /// Judges the configuration at a path.
@@ -72,7 +64,8 @@ fn judge_request<T: Tree>(
     task: Task,
     path: &str,
 ) -> Result<List<File>, Halt>
-    ensures { Follows (requested (record { task = task; path = path.now })) (T.state tree.old) (T.state tree.new) result }
+    ensures follows { Follows (requested (record { task = task; path = path.now })) (T.state tree.old) (T.state tree.new) result }
+    ensures compiling { IfOk result (λ files. task ≡ Compile → files ≡ []) }
 {
     let blocks = read_configuration(alloc, tree, path)?;
     let files = judge_configured(alloc, tree, path, &blocks)?;
@@ -80,12 +73,18 @@ fn judge_request<T: Tree>(
 }
 
 /// Does what the words say, up to the files that are to be put.
-pub fn judge_run<T: Tree>(alloc: Global, words: &[String], tree: &mut T) -> Result<List<File>, Halt>
-    ensures { Judging (map string_bytes words.now) (is_command (map string_bytes words.now)) (T.state tree.old) (T.state tree.new) result }
+pub fn judge_run<T: Tree>(alloc: Global, words: &[String], tree: &mut T) -> Ending
+    ensures judging { Judging (map string_bytes words.now) (is_command (map string_bytes words.now)) (T.state tree.old) (T.state tree.new) result }
+    ensures compiling { task_asked (map string_bytes words.now) ≡ Some Compile → files_of result ≡ [] }
 {
     match read_words(alloc, words) {
-        Ok(Some(request)) => judge_request(alloc, tree, request.task, request.path.as_str()),
-        Ok(None) => Err(Halt::Usage),
-        Err(_) => Err(Halt::Memory),
+        Ok(Some(request)) => Ending::Judged(judge_request(
+            alloc,
+            tree,
+            request.task,
+            request.path.as_str(),
+        )),
+        Ok(None) => Ending::Usage,
+        Err(_) => Ending::Judged(Err(Halt::Memory)),
     }
 }

@@ -1,13 +1,13 @@
 ghost use Rattle.std.specs.Prelude.{◌≡◌, ◌++◌, IfOk, OnOk};
 ghost use Rattle.sq_lexer.specs.Printed.{gap_text, spaced, printed};
-ghost use Rattle.sq_run.specs.Judged.{Answers};
+ghost use Rattle.sq_base.specs.Answers.{Gives as Answers};
 ghost use Rattle.sq_run.specs.Parsed.{statement_check};
 ghost use Rattle.sq_run.specs.Query.{behind, before_end, query_name, noted_name, annotated, named_statement, query_in};
-ghost use Rattle.sq_run.specs.Read.{Gives};
+ghost use Rattle.sq_base.specs.Answers.{Finds};
 
 use crate::names::{ascii, is_identifier};
-use crate::statements::{NoForm, Select, one_statement, read_select};
-use sq_base::{Fault, List, Name};
+use crate::statements::{Select, one_statement, read_select};
+use sq_base::{Fault, List, Name, NoForm};
 use sq_parse_stmt::statement;
 use sq_syntax::{Gap, Token, TokenKind};
 use std::alloc::{AllocError, Global};
@@ -22,34 +22,34 @@ pub struct Query {
 
 /// What stands behind the front of a text.
 fn behind<'a>(text: &'a [u8], front: &[u8]) -> Result<&'a [u8], NoForm>
-    ensures { Gives (λ r. r.now) result (behind front.now text.now) }
+    ensures { Finds (λ r. r.now) result (behind front.now text.now) }
 {
-    text.strip_prefix(front).ok_or(NoForm::Other)
+    text.strip_prefix(front).ok_or(NoForm::Absent)
 }
 
 /// What stands before the end of a text.
 fn before_end<'a>(text: &'a [u8], end: &[u8]) -> Result<&'a [u8], NoForm>
-    ensures { Gives (λ r. r.now) result (before_end end.now text.now) }
+    ensures { Finds (λ r. r.now) result (before_end end.now text.now) }
 {
-    text.strip_suffix(end).ok_or(NoForm::Other)
+    text.strip_suffix(end).ok_or(NoForm::Absent)
 }
 
 /// A query's name.
 #[tactic(auto, unfolding(crate::specs::Query::query_name))]
 fn query_name(alloc: Global, text: &[u8]) -> Result<Name, NoForm>
-    ensures { Gives (λ r. r) result (query_name text.now) }
+    ensures { Finds (λ r. r) result (query_name text.now) }
 {
     if is_identifier(text) {
         Ok(Name::from_string(ascii(alloc, text)?))
     } else {
-        Err(NoForm::Other)
+        Err(NoForm::Absent)
     }
 }
 
 /// The name in the line `-- name: NAME :many` (sqlc documentation, query annotations).
 #[tactic(auto, unfolding(crate::specs::Query::noted_name))]
 fn noted_name(alloc: Global, bytes: &[u8]) -> Result<Name, NoForm>
-    ensures { Gives (λ r. r) result (noted_name bytes.now) }
+    ensures { Finds (λ r. r) result (noted_name bytes.now) }
 {
     let rest = behind(bytes, b"-- name: ")?;
     query_name(alloc, before_end(rest, b" :many")?)
@@ -58,14 +58,14 @@ fn noted_name(alloc: Global, bytes: &[u8]) -> Result<Name, NoForm>
 /// The name of the annotated query, and the tokens behind the annotation.
 #[tactic(auto, unfolding(crate::specs::Query::annotated))]
 fn annotated<'a>(alloc: Global, tokens: &'a [Token]) -> Result<(Name, &'a [Token]), NoForm>
-    ensures { Gives (λ r. (r.0, r.1.now)) result (annotated tokens.now) }
+    ensures { Finds (λ r. (r.0, r.1.now)) result (annotated tokens.now) }
 {
     match tokens.split_first() {
         Some((token, later)) if token.kind == TokenKind::Note => Ok((
             noted_name(alloc, token.bytes.as_slice())?,
             later,
         )),
-        _ => Err(NoForm::Other),
+        _ => Err(NoForm::Absent),
     }
 }
 
@@ -75,7 +75,7 @@ pub fn named_statement<'a>(
     alloc: Global,
     tokens: &'a [Token],
 ) -> Result<(Name, &'a [Token]), NoForm>
-    ensures { Gives (λ r. (r.0, r.1.now)) result (named_statement tokens.now) }
+    ensures { Finds (λ r. (r.0, r.1.now)) result (named_statement tokens.now) }
 {
     let (name, later) = annotated(alloc, tokens)?;
     Ok((name, one_statement(later)?))
@@ -139,7 +139,7 @@ fn printed(alloc: Global, tokens: &[Token]) -> Result<List<u8>, AllocError>
 /// Reads the query with this name and statement.
 #[tactic(auto, unfolding(crate::specs::Query::query_in))]
 pub fn read_query(alloc: Global, name: Name, statement: &[Token]) -> Result<Query, NoForm>
-    ensures { Gives (λ r. r) result (query_in name statement.now) }
+    ensures { Finds (λ r. r) result (query_in name statement.now) }
 {
     let select = read_select(alloc, statement)?;
     let text = printed(alloc, statement)?;

@@ -4,22 +4,21 @@ ghost use Rattle.std.specs.Prelude.{◌≡◌, ◌∷◌, ◌++◌, ◌<◌, [],
 ghost use Rattle.std.specs.List.{list_all, slice_split};
 ghost use Rattle.std.specs.Option.{option_map_or};
 ghost use Rattle.sq_migrate.specs.Replay.{state};
-ghost use Rattle.sq_run.specs.Asked.{Judges};
-ghost use Rattle.sq_run.specs.Judged.{Answers};
+ghost use Rattle.sq_base.specs.Answers.{Gives as Answers};
+ghost use Rattle.sq_plan.specs.Asked.{Judges};
 ghost use Rattle.sq_run.specs.Schema as spec;
 ghost use Rattle.sq_run.specs.Schema.{made};
 ghost use Rattle.sq_run.specs.Statements.{is_end};
 
-use crate::joining::append;
-use crate::read::{Role, refuse};
 use crate::sources::SourceFile;
 use crate::statements::is_end;
-use crate::{Finding, Halt};
-use sq_base::{Fault, List, Name, PgType, Refusal, Scalar};
+use sq_base::{Code, Fault, List, Name, PgType, Refusal, Scalar};
 use sq_catalog::{Catalogue, Table};
 use sq_migrate::replay;
-use sq_parse_stmt::ddl;
+use sq_parse_ddl::ddl;
+use sq_plan::{Finding, Halt, Role, Spot, append, refuse_file};
 use sq_syntax::{Ddl, Token, TokenKind};
+use sqlite_items::Boxed;
 use std::alloc::{AllocError, Global};
 
 /// The tokens but for the comments that name queries.
@@ -56,7 +55,7 @@ fn cut(tokens: &[Token]) -> (&[Token], Option<&[Token]>)
 
 /// The statement that tokens spell, and none where they are passed over.
 #[tactic(auto, using(crate::proofs::ReadDdl::reads))]
-fn read_ddl(alloc: Global, tokens: &[Token]) -> Result<Option<Ddl>, Fault>
+fn read_ddl(alloc: Global, tokens: &[Token]) -> Result<Option<Boxed<Ddl>>, Fault>
     ensures { Answers (spec.read_ddl tokens.now) result }
 {
     ddl(alloc, tokens)
@@ -68,8 +67,9 @@ fn found_at(alloc: Global, path: &str, refusals: List<Refusal>) -> Result<List<F
 {
     let mut findings = List::new(alloc);
     for refusal in refusals.into_vec() {
-        findings.push(Finding::Source {
+        findings.push(Finding {
             path: Name::new(alloc, path)?,
+            spot: Spot::Placed,
             refusal,
         })?;
     }
@@ -99,11 +99,11 @@ fn one_refusal(alloc: Global, refusal: Refusal) -> Result<List<Refusal>, AllocEr
 }
 
 /// The list of this one statement.
-fn one_statement(alloc: Global, statement: Ddl) -> Result<List<Ddl>, AllocError>
+fn one_statement(alloc: Global, statement: Boxed<Ddl>) -> Result<List<Ddl>, AllocError>
     ensures { IfOk result (λ statements. statements ≡ statement ∷ []) }
 {
     let mut statements = List::new(alloc);
-    statements.push(statement)?;
+    statements.push(statement.into_inner())?;
     Ok(statements)
 }
 
@@ -112,7 +112,7 @@ fn one_statement(alloc: Global, statement: Ddl) -> Result<List<Ddl>, AllocError>
 fn replay_one(
     alloc: Global,
     catalogue: &mut Catalogue,
-    statement: Ddl,
+    statement: Boxed<Ddl>,
 ) -> Result<List<Refusal>, AllocError>
     ensures { IfOk result (λ refusals. state catalogue.new refusals ≡ spec.replay_of catalogue.old statement) }
 {
@@ -126,7 +126,7 @@ fn replay_in(
     catalogue: &mut Catalogue,
     findings: &mut List<Finding>,
     path: &str,
-    statement: Ddl,
+    statement: Boxed<Ddl>,
 ) -> Result<(), AllocError>
     ensures { IfOk result (λ done. made catalogue.new findings.new ≡ spec.after_replay path.now findings.old (spec.replay_of catalogue.old statement)) }
 {
@@ -290,7 +290,7 @@ fn catalogue_by(
     if is_built(&catalogue) {
         Ok(catalogue)
     } else {
-        Err(refuse(alloc, Role::Configuration, configuration))
+        Err(refuse_file(alloc, Role::Configuration, Code::NotYet, configuration))
     }
 }
 

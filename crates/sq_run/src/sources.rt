@@ -2,24 +2,22 @@
 
 ghost use Rattle.std.specs.Prelude.{◌≡◌, ◌∷◌, ◌≤◌, ◌<◌, [], length, IfOk};
 ghost use Rattle.sq_lexer.specs.TokenList.{token_list};
-ghost use Rattle.sq_run.specs.Asked.{Follows, Judges, gathered};
+ghost use Rattle.sq_plan.specs.Asked.{Follows, Judges, gathered};
 ghost use Rattle.sq_run.specs.Project;
-ghost use Rattle.sq_run.specs.Project.{counted, listed, source, sources, with_tokens};
-ghost use Rattle.sq_run.specs.Sources.{bytes_read};
-ghost use Rattle.sq_run.specs.declared.read.TheConstants.{LIMIT};
+ghost use Rattle.sq_plan.specs.Reading.{listed};
+ghost use Rattle.sq_run.specs.Project.{counted, source, sources, with_tokens};
+ghost use Rattle.sq_plan.specs.Sources.{bytes_read};
+ghost use Rattle.sq_base.specs.declared.limits.TheConstants.{MOST_FILE_BYTES};
 
-use crate::Halt;
-use crate::entries::Purpose;
-use crate::joining::{ending, join};
-use crate::read::{Role, list_path, read_whole, refuse_file, refuse_source};
-use crate::rollback::before_rollback;
-use sq_base::{Fault, List, Name, Tree};
+use sq_base::limits::MOST_FILES;
+use sq_base::{Code, Fault, List, Name, Tree};
 use sq_lexer::tokens;
+use sq_plan::{
+    Halt, Purpose, Role, Spot, before_rollback, ending, join, list_path, read_whole, refuse,
+    refuse_file,
+};
 use sq_syntax::Token;
 use std::alloc::{AllocError, Global};
-
-/// The most files that one key of a block may have.
-pub const MOST_FILES: usize = 256;
 
 /// A source file with its tokens.
 #[derive(Debug, Drop)]
@@ -50,7 +48,7 @@ fn counted(alloc: Global, paths: List<Name>) -> Result<List<Name>, Halt>
     ensures judges { Judges (counted paths) result }
 {
     match paths.get(MOST_FILES) {
-        Some(path) => Err(refuse_file(alloc, Role::Source, 9, path.as_str())),
+        Some(path) => Err(refuse_file(alloc, Role::Source, Code::TooManyFiles, path.as_str())),
         None => Ok(paths),
     }
 }
@@ -73,7 +71,7 @@ fn one_source(
 
 /// The source at a path with these bytes, which has this number among those of its key.
 fn source_of(alloc: Global, number: u32, path: &str, bytes: &[u8]) -> Result<List<SourceFile>, Halt>
-    requires { length bytes.now ≤ LIMIT }
+    requires { length bytes.now ≤ MOST_FILE_BYTES }
     ensures { Judges (with_tokens path.now (token_list number bytes.now)) result }
 {
     match tokens(alloc, number, bytes) {
@@ -81,7 +79,7 @@ fn source_of(alloc: Global, number: u32, path: &str, bytes: &[u8]) -> Result<Lis
             Ok(files) => Ok(files),
             Err(_) => Err(Halt::Memory),
         },
-        Err(Fault::Refused(refusal)) => Err(refuse_source(alloc, path, refusal)),
+        Err(Fault::Refused(refusal)) => Err(refuse(alloc, path, Spot::Placed, refusal)),
         Err(Fault::Memory) => Err(Halt::Memory),
     }
 }

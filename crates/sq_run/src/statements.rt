@@ -2,11 +2,10 @@ ghost use Rattle.std.specs.Prelude.{◌≡◌, ◌<◌, ◌≤◌, ◌++◌, [],
 ghost use Rattle.sq_run.specs.Statements;
 ghost use Rattle.sq_run.specs.Statements.{is, is_end, is_inner, are_inner, is_single, after, name_at, next, items_at, ended, single, one_statement, select};
 ghost use Rattle.sq_syntax.specs.declared.token.TokenKind.TheVariants.{Word, Punct};
-ghost use Rattle.sq_run.specs.Read.{Gives};
-ghost use Rattle.sq_run.specs.declared.statements.NoForm.TheVariants.{Memory};
+ghost use Rattle.sq_base.specs.Answers.{Finds};
 
 use crate::names::{name_text, same_word};
-use sq_base::{List, Name, Place};
+use sq_base::{List, Name, NoForm, Place};
 use sq_syntax::{Token, TokenKind};
 use std::alloc::{AllocError, Global};
 
@@ -22,22 +21,6 @@ pub struct Named {
 pub struct Select {
     pub outputs: List<Named>,
     pub table: Named,
-}
-
-/// Why tokens are no statement that is read.
-#[derive(Debug, Drop)]
-pub enum NoForm {
-    /// They are spelled otherwise.
-    Other,
-    Memory,
-}
-
-impl From<AllocError> for NoForm {
-    ghost from_gives = { λ _ fault. fault ≡ Memory };
-
-    fn from(_error: AllocError) -> NoForm {
-        NoForm::Memory
-    }
 }
 
 #[tactic(auto, unfolding(crate::specs::Statements::same_kind))]
@@ -65,11 +48,11 @@ pub fn is_end(token: &Token) -> bool
 #[tactic(auto, unfolding(crate::specs::Statements::after))]
 fn after<'a>(tokens: &'a [Token], kind: TokenKind, text: &str) -> Result<&'a [Token], NoForm>
     ensures shorter { IfOk result (λ r. length r.now < length tokens.now) }
-    ensures part { Gives (λ r. r.now) result (after kind text.now tokens.now) }
+    ensures part { Finds (λ r. r.now) result (after kind text.now tokens.now) }
 {
     match tokens.split_first() {
         Some((token, later)) if is(token, kind, text) => Ok(later),
-        _ => Err(NoForm::Other),
+        _ => Err(NoForm::Absent),
     }
 }
 
@@ -77,10 +60,10 @@ fn after<'a>(tokens: &'a [Token], kind: TokenKind, text: &str) -> Result<&'a [To
 #[tactic(auto, unfolding(crate::specs::Statements::name_at))]
 fn name_at<'a>(alloc: Global, tokens: &'a [Token]) -> Result<(Named, &'a [Token]), NoForm>
     ensures shorter { IfOk result (λ r. length r.1.now < length tokens.now) }
-    ensures part { Gives (λ r. (r.0, r.1.now)) result (name_at tokens.now) }
+    ensures part { Finds (λ r. (r.0, r.1.now)) result (name_at tokens.now) }
 {
     let Some((token, later)) = tokens.split_first() else {
-        return Err(NoForm::Other);
+        return Err(NoForm::Absent);
     };
     let named = Named {
         name: name_text(alloc, token.kind, token.bytes.as_slice())?,
@@ -97,11 +80,11 @@ fn next<'a>(
     close: &str,
 ) -> Result<(bool, &'a [Token]), NoForm>
     ensures shorter { IfOk result (λ r. length r.1.now < length tokens.now) }
-    ensures part { Gives (λ r. (r.0, r.1.now)) result (next kind close.now tokens.now) }
+    ensures part { Finds (λ r. (r.0, r.1.now)) result (next kind close.now tokens.now) }
 {
     match after(tokens, TokenKind::Punct, ",") {
         Ok(later) => Ok((true, later)),
-        Err(NoForm::Other) => Ok((false, after(tokens, kind, close)?)),
+        Err(NoForm::Absent) => Ok((false, after(tokens, kind, close)?)),
         Err(NoForm::Memory) => Err(NoForm::Memory),
     }
 }
@@ -109,18 +92,18 @@ fn next<'a>(
 /// Nothing follows.
 #[tactic(auto, unfolding(crate::specs::Statements::ended))]
 fn ended(tokens: &[Token]) -> Result<(), NoForm>
-    ensures { Gives (λ r. r) result (ended tokens.now) }
+    ensures { Finds (λ r. r) result (ended tokens.now) }
 {
     if tokens.is_empty() {
         Ok(())
     } else {
-        Err(NoForm::Other)
+        Err(NoForm::Absent)
     }
 }
 
 /// The names up to the word FROM, and the tokens after it.
 fn outputs_at<'a>(alloc: Global, tokens: &'a [Token]) -> Result<(List<Named>, &'a [Token]), NoForm>
-    ensures { Gives (λ r. (r.0, r.1.now)) result (items_at name_at Word (codes "from") tokens.now) }
+    ensures { Finds (λ r. (r.0, r.1.now)) result (items_at name_at Word (codes "from") tokens.now) }
 {
     let mut outputs = List::new(alloc);
     let mut rest = tokens;
@@ -157,19 +140,19 @@ fn is_single(tokens: &[Token]) -> bool
 
 /// Tokens, where they are those of a single statement.
 fn single(tokens: &[Token]) -> Result<&[Token], NoForm>
-    ensures { Gives (λ r. r.now) result (single tokens.now) }
+    ensures { Finds (λ r. r.now) result (single tokens.now) }
 {
     if is_single(tokens) {
         Ok(tokens)
     } else {
-        Err(NoForm::Other)
+        Err(NoForm::Absent)
     }
 }
 
 /// The one statement of a file, without the semicolon that ends it.
 #[tactic(auto, unfolding(crate::specs::Statements::one_statement))]
 pub fn one_statement(tokens: &[Token]) -> Result<&[Token], NoForm>
-    ensures { Gives (λ r. r.now) result (one_statement tokens.now) }
+    ensures { Finds (λ r. r.now) result (one_statement tokens.now) }
 {
     let (statement, end) = tokens.split_at(tokens.len().saturating_sub(1));
     after(end, TokenKind::Punct, ";")?;
@@ -179,7 +162,7 @@ pub fn one_statement(tokens: &[Token]) -> Result<&[Token], NoForm>
 /// Reads SELECT with its names and its table.
 #[tactic(auto, unfolding(crate::specs::Statements::select))]
 pub fn read_select(alloc: Global, tokens: &[Token]) -> Result<Select, NoForm>
-    ensures { Gives (λ r. r) result (select tokens.now) }
+    ensures { Finds (λ r. r) result (select tokens.now) }
 {
     let tokens = after(tokens, TokenKind::Word, "select")?;
     let (outputs, tokens) = outputs_at(alloc, tokens)?;

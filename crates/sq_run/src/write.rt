@@ -1,18 +1,15 @@
 //! The files of the outputs of a block.
 
 ghost use Rattle.std.specs.Prelude.{◌≡◌, map, IfOk};
-ghost use Rattle.sq_run.specs.Asked.{Judges, each_judged};
+ghost use Rattle.sq_plan.specs.Asked.{Judges, each_judged};
 ghost use Rattle.sq_run.specs.Project.{models_of, placed, output_files, written};
 
-use crate::Halt;
 use crate::declare::models_of;
-use crate::joining::{ending, join};
-use crate::outputs::Output;
-use crate::read::{Role, refuse};
-use sq_base::{File, List, Name};
+use sq_base::{Code, File, List, Name};
 use sq_catalog::Catalogue;
-use sq_core::{ModelDecl, QueryFile};
 use sq_go::{go_clash, go_files};
+use sq_plan::{Halt, Output, Role, ending, join, refuse_file};
+use sq_shown::{ModelDecl, QueryFile};
 use std::alloc::{AllocError, Global};
 
 /// A written file in the folder of its output.
@@ -65,7 +62,7 @@ fn written(
             Ok(files) => Ok(files),
             Err(_) => Err(Halt::Memory),
         },
-        Ok(true) => Err(refuse(alloc, Role::Configuration, configuration)),
+        Ok(true) => Err(refuse_file(alloc, Role::Configuration, Code::NotYet, configuration)),
         Err(_) => Err(Halt::Memory),
     }
 }

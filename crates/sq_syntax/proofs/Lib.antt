@@ -1,12 +1,4 @@
 pub mod Equations
-pub mod Layers
-pub mod QueryFacts
-pub mod TreeHeights
-pub mod TreeTurns
-pub mod WeightNames
-pub mod WeightQueries
-pub mod WeightTrees
-pub mod Weights
 mod Worked
 mod WorkedSchemas
 mod WorkedStatements

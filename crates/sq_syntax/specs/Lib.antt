@@ -4,7 +4,6 @@ pub mod ExpressionPieces
 pub mod Facts
 pub mod Grammar
 pub mod Items
-pub mod Parts
 pub mod Pieces
 pub mod QueryPieces
 pub mod Runs

@@ -4,6 +4,9 @@ use Rattle.std.specs.List.{starts_with}
 use Rattle.std.specs.Str.{IsUtf8}
 use Rattle.std.specs.Str.Lossy.{utf8_valid_len}
 use Rattle.sq_base.specs.declared.place.Place.{Place}
+use Rattle.sq_base.specs.Refusals.{refused}
+use Rattle.sq_base.specs.declared.code.Code.{Code}
+use Rattle.sq_base.specs.declared.code.Code.TheVariants as code
 use Rattle.sq_base.specs.declared.refusal.Refusal.{Refusal}
 use Rattle.sq_base.specs.declared.refusal.Fault.{Fault}
 use Rattle.sq_base.specs.declared.refusal.Fault.TheVariants.{Refused, Memory}
@@ -69,18 +72,14 @@ pub data Reads : Gap → Place → List ℕ → List Token → Option Stopped �
       → Reads gap.Nothing (after place item) rest tokens ending
       → Reads g place bytes (record { kind = of; bytes = item; place = place; gap = g } ∷ tokens) ending
 
--- the number of the refusal
-abbrev pub number_of : Stop → ℕ
-number_of Unterminated = 1
-number_of BadByte = 2
-
--- a refusal that keeps no text
-abbrev pub refusal : ℕ → Place → Refusal
-refusal number place = record { number = number; place = place; first = []; second = [] }
+-- the kind of the refusal
+abbrev pub code_of : Stop → Code
+code_of Unterminated = code.Unterminated
+code_of BadByte = code.BadByte
 
 -- the refusal at which a reading stopped
 abbrev pub refusal_of : Stopped → Refusal
-refusal_of stopped = refusal (number_of stopped.stop) stopped.place
+refusal_of stopped = refused (code_of stopped.stop) stopped.place
 
 -- the tokens that are read, or the refusal, or want of memory
 abbrev pub AnswersFrom : Gap → Place → List ℕ → Result (List Token) Fault → Type 0
@@ -111,7 +110,7 @@ text_gap bytes = if has_mark bytes then gap.Blank else gap.Nothing
 -- bytes that are no UTF-8 are refused at the first that is ill-formed
 abbrev pub AnswersIllFormed : ℕ → List ℕ → Result (List Token) Fault → Type 0
 AnswersIllFormed file bytes (Ok tokens) = ⊥
-AnswersIllFormed file bytes (Err (Refused r)) = r ≡ refusal 3 (after (file_start file) (take (utf8_valid_len bytes) bytes))
+AnswersIllFormed file bytes (Err (Refused r)) = r ≡ refused code.NotUtf8 (after (file_start file) (take (utf8_valid_len bytes) bytes))
 AnswersIllFormed file bytes (Err Memory) = Unit {0}
 
 -- the file's token list or its refusal, unless memory was wanting

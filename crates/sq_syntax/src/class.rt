@@ -12,7 +12,7 @@ ghost use Rattle.sq_syntax.specs.Bytes.{
 };
 
 /// What a byte is to the lexer.
-#[derive(Clone, Copy, Debug, PartialEq, Eq)]
+#[derive(Clone, Copy, PartialEq, Eq)]
 pub enum ByteClass {
     /// A space, a tab, a carriage return, a form feed or a vertical tab.
     Blank,

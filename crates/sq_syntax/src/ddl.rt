@@ -67,14 +67,14 @@ pub struct DropNamed {
     pub behavior: Behavior,
 }
 
-#[derive(Clone, Copy, Debug, PartialEq, Eq)]
+#[derive(Clone, Copy, PartialEq, Eq)]
 pub enum Dropped {
     Table,
     Type,
     Domain,
 }
 
-#[derive(Clone, Copy, Debug, PartialEq, Eq)]
+#[derive(Clone, Copy, PartialEq, Eq)]
 pub enum Behavior {
     Unsaid,
     Cascade,
@@ -220,19 +220,19 @@ pub struct Reference {
 }
 
 /// `ON DELETE CASCADE` and its like
-#[derive(Clone, Copy, Debug, PartialEq, Eq)]
+#[derive(Clone, Copy, PartialEq, Eq)]
 pub struct Reaction {
     pub event: ReferenceEvent,
     pub action: ReferenceAction,
 }
 
-#[derive(Clone, Copy, Debug, PartialEq, Eq)]
+#[derive(Clone, Copy, PartialEq, Eq)]
 pub enum ReferenceEvent {
     Delete,
     Update,
 }
 
-#[derive(Clone, Copy, Debug, PartialEq, Eq)]
+#[derive(Clone, Copy, PartialEq, Eq)]
 pub enum ReferenceAction {
     Cascade,
     Restrict,
@@ -241,7 +241,7 @@ pub enum ReferenceAction {
     SetDefault,
 }
 
-#[derive(Clone, Copy, Debug, PartialEq, Eq)]
+#[derive(Clone, Copy, PartialEq, Eq)]
 pub enum Generation {
     Always,
     ByDefault,

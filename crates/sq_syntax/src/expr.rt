@@ -164,7 +164,7 @@ impl Drop for Expression {
 }
 
 /// A constant. Its bytes are those of the source.
-#[derive(Debug, Drop)]
+#[derive(Drop)]
 pub enum Constant {
     Number(List<u8>),
     Text(List<u8>),
@@ -177,7 +177,7 @@ pub enum Constant {
     Null,
 }
 
-#[derive(Debug, Drop)]
+#[derive(Drop)]
 pub enum Parameter {
     /// `$1`, with its bytes
     Numbered(List<u8>),
@@ -188,14 +188,14 @@ pub enum Parameter {
 }
 
 /// Which of `sqlc.arg`, `sqlc.narg` and `sqlc.slice` is written.
-#[derive(Clone, Copy, Debug, PartialEq, Eq)]
+#[derive(Clone, Copy, PartialEq, Eq)]
 pub enum Purpose {
     Arg,
     Narg,
     Slice,
 }
 
-#[derive(Debug, Drop)]
+#[derive(Drop)]
 pub enum ParameterName {
     Identifier(Identifier),
     /// A string constant, with its bytes
@@ -240,14 +240,14 @@ pub struct Sort<E> {
     pub nulls: Nulls,
 }
 
-#[derive(Clone, Copy, Debug, PartialEq, Eq)]
+#[derive(Clone, Copy, PartialEq, Eq)]
 pub enum Direction {
     Unsaid,
     Ascending,
     Descending,
 }
 
-#[derive(Clone, Copy, Debug, PartialEq, Eq)]
+#[derive(Clone, Copy, PartialEq, Eq)]
 pub enum Nulls {
     Unsaid,
     First,
@@ -262,20 +262,20 @@ pub struct Index<E> {
 }
 
 /// `::type`, with the place of `::`.
-#[derive(Debug, Drop)]
+#[derive(Drop)]
 pub struct Conversion {
     pub place: Place,
     pub to: TypeName,
 }
 
-#[derive(Clone, Copy, Debug, PartialEq, Eq)]
+#[derive(Clone, Copy, PartialEq, Eq)]
 pub struct Sign {
     pub place: Place,
     pub is_minus: bool,
 }
 
 /// `COLLATE name`, with the place of COLLATE.
-#[derive(Debug, Drop)]
+#[derive(Drop)]
 pub struct Collation {
     pub place: Place,
     pub name: Identifier,
@@ -296,7 +296,7 @@ pub struct Link<E> {
     pub operand: E,
 }
 
-#[derive(Debug, Drop)]
+#[derive(Drop)]
 pub enum Operator {
     Power,
     Times,
@@ -310,7 +310,7 @@ pub enum Operator {
 }
 
 /// `!=` is read as `<>`.
-#[derive(Clone, Copy, Debug, PartialEq, Eq)]
+#[derive(Clone, Copy, PartialEq, Eq)]
 pub enum Comparison {
     Less,
     Greater,
@@ -320,20 +320,20 @@ pub enum Comparison {
     NotEqual,
 }
 
-#[derive(Clone, Copy, Debug, PartialEq, Eq)]
+#[derive(Clone, Copy, PartialEq, Eq)]
 pub enum Matching {
     Like,
     Ilike,
 }
 
-#[derive(Clone, Copy, Debug, PartialEq, Eq)]
+#[derive(Clone, Copy, PartialEq, Eq)]
 pub enum Quantifier {
     Any,
     Some,
     All,
 }
 
-#[derive(Clone, Copy, Debug, PartialEq, Eq)]
+#[derive(Clone, Copy, PartialEq, Eq)]
 pub enum Test {
     /// `IS NULL`
     Null,

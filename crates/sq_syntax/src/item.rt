@@ -1,5 +1,5 @@
 /// What the next bytes of a file are: a token of some class, or a piece of what stands between tokens.
-#[derive(Clone, Copy, Debug, PartialEq, Eq)]
+#[derive(Clone, Copy, PartialEq, Eq)]
 pub enum ItemKind {
     /// Spaces, tabs, newlines and the like.
     Blank,
@@ -22,7 +22,7 @@ pub enum ItemKind {
 }
 
 /// Why nothing is read at a place.
-#[derive(Clone, Copy, Debug, PartialEq, Eq)]
+#[derive(Clone, Copy, PartialEq, Eq)]
 pub enum Stop {
     /// A quoted form or a block comment has no end.
     Unterminated,

@@ -1,7 +1,7 @@
 use sq_base::{List, Name, Place};
 
 /// A name as it is looked up: the folded word, or what stands between the quotes.
-#[derive(Debug, Drop)]
+#[derive(Drop)]
 pub struct Identifier {
     pub name: Name,
     pub is_quoted: bool,
@@ -9,14 +9,14 @@ pub struct Identifier {
 }
 
 /// The name of a table or of a type.
-#[derive(Debug, Drop)]
+#[derive(Drop)]
 pub struct QualifiedName {
     pub schema: Option<Identifier>,
     pub name: Identifier,
 }
 
 /// The name of a column, of one to three parts.
-#[derive(Debug, Drop)]
+#[derive(Drop)]
 pub enum ColumnName {
     /// `column`
     Bare(Identifier),
@@ -27,7 +27,7 @@ pub enum ColumnName {
 }
 
 /// The words of a type.
-#[derive(Debug, Drop)]
+#[derive(Drop)]
 pub enum TypeWord {
     Named(QualifiedName),
     /// `DOUBLE PRECISION`, and the place of the first word.
@@ -37,7 +37,7 @@ pub enum TypeWord {
 }
 
 /// What is said of a time zone.
-#[derive(Clone, Copy, Debug, PartialEq, Eq)]
+#[derive(Clone, Copy, PartialEq, Eq)]
 pub enum TimeZone {
     Unsaid,
     With,
@@ -45,7 +45,7 @@ pub enum TimeZone {
 }
 
 /// A type as it is written (PostgreSQL manual, chapter 8).
-#[derive(Debug, Drop)]
+#[derive(Drop)]
 pub struct TypeName {
     pub word: TypeWord,
     /// The numbers in brackets, none where there are no brackets.

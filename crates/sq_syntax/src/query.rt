@@ -51,7 +51,7 @@ pub struct With<Q> {
     pub query: Q,
 }
 
-#[derive(Clone, Copy, Debug, PartialEq, Eq)]
+#[derive(Clone, Copy, PartialEq, Eq)]
 pub enum Materialized {
     Unsaid,
     Yes,
@@ -74,14 +74,14 @@ pub struct SetLink<T> {
     pub operand: T,
 }
 
-#[derive(Clone, Copy, Debug, PartialEq, Eq)]
+#[derive(Clone, Copy, PartialEq, Eq)]
 pub enum SetOperation {
     Union,
     Except,
     Intersect,
 }
 
-#[derive(Clone, Copy, Debug, PartialEq, Eq)]
+#[derive(Clone, Copy, PartialEq, Eq)]
 pub enum Quantity {
     Unsaid,
     All,
@@ -155,7 +155,7 @@ pub enum Output<E> {
     Value(E, Label),
 }
 
-#[derive(Debug, Drop)]
+#[derive(Drop)]
 pub enum Label {
     Unsaid,
     /// `AS name`
@@ -201,7 +201,7 @@ impl Drop for Join {
     }
 }
 
-#[derive(Clone, Copy, Debug, PartialEq, Eq)]
+#[derive(Clone, Copy, PartialEq, Eq)]
 pub enum JoinKind {
     /// `JOIN`
     Unsaid,
@@ -241,7 +241,7 @@ impl Drop for Source {
 }
 
 /// `[AS] name (columns)`
-#[derive(Debug, Drop)]
+#[derive(Drop)]
 pub struct Alias {
     pub has_as: bool,
     pub name: Identifier,
@@ -262,7 +262,7 @@ pub struct Offset<E> {
 }
 
 /// The word behind the number of OFFSET.
-#[derive(Clone, Copy, Debug, PartialEq, Eq)]
+#[derive(Clone, Copy, PartialEq, Eq)]
 pub enum RowWord {
     Unsaid,
     Row,
@@ -270,7 +270,7 @@ pub enum RowWord {
 }
 
 /// `FOR UPDATE` and its like
-#[derive(Debug, Drop)]
+#[derive(Drop)]
 pub struct Lock {
     pub strength: Strength,
     /// The names of OF, none where it is not written.
@@ -278,7 +278,7 @@ pub struct Lock {
     pub waiting: Waiting,
 }
 
-#[derive(Clone, Copy, Debug, PartialEq, Eq)]
+#[derive(Clone, Copy, PartialEq, Eq)]
 pub enum Strength {
     Update,
     NoKeyUpdate,
@@ -286,7 +286,7 @@ pub enum Strength {
     KeyShare,
 }
 
-#[derive(Clone, Copy, Debug, PartialEq, Eq)]
+#[derive(Clone, Copy, PartialEq, Eq)]
 pub enum Waiting {
     Unsaid,
     NoWait,

@@ -5,7 +5,7 @@ use sqlite_items::{Boxed, Items};
 /// A query or a change of data, as it is written.
 #[derive(Drop)]
 pub enum Statement {
-    Query(Query),
+    Query(Boxed<Query>),
     Insert(Insert),
     Update(Update),
     Delete(Delete),
@@ -53,7 +53,7 @@ pub struct ValuesRow {
 pub enum Given {
     /// `DEFAULT`, and its place.
     Default(Place),
-    Expression(Node<Expression>),
+    Expression(Boxed<Node<Expression>>),
 }
 
 /// `ON CONFLICT ..`, with its place. An update needs a target.
@@ -62,13 +62,13 @@ pub enum Conflict {
     /// `ON CONFLICT target DO NOTHING`
     Nothing(Place, Option<ConflictTarget>),
     /// `ON CONFLICT target DO UPDATE SET .. WHERE ..`
-    Update(Place, ConflictTarget, Items<Assignment>, Option<Node<Expression>>),
+    Update(Place, ConflictTarget, Items<Assignment>, Option<Boxed<Node<Expression>>>),
 }
 
 #[derive(Drop)]
 pub enum ConflictTarget {
     /// `(columns) WHERE condition`
-    Columns(List<Identifier>, Option<Node<Expression>>),
+    Columns(List<Identifier>, Option<Boxed<Node<Expression>>>),
     /// `ON CONSTRAINT name`
     Constraint(Identifier),
 }
@@ -81,7 +81,7 @@ pub struct Assignment {
 }
 
 /// `[AS] name` behind the table of a change.
-#[derive(Debug, Drop)]
+#[derive(Drop)]
 pub struct TableAlias {
     pub has_as: bool,
     pub name: Identifier,
@@ -100,7 +100,7 @@ pub struct Update {
     pub sets: Items<Assignment>,
     /// None where FROM is not written.
     pub from: Items<From>,
-    pub condition: Option<Node<Expression>>,
+    pub condition: Option<Boxed<Node<Expression>>>,
     /// None where RETURNING is not written.
     pub returning: Items<Node<Output<Node<Expression>>>>,
 }
@@ -117,7 +117,7 @@ pub struct Delete {
     pub alias: Option<TableAlias>,
     /// None where USING is not written.
     pub using: Items<From>,
-    pub condition: Option<Node<Expression>>,
+    pub condition: Option<Boxed<Node<Expression>>>,
     /// None where RETURNING is not written.
     pub returning: Items<Node<Output<Node<Expression>>>>,
 }

@@ -1,7 +1,7 @@
 use sq_base::{List, Place};
 
 /// A sign or a word that the grammar knows.
-#[derive(Clone, Copy, Debug, PartialEq, Eq)]
+#[derive(Clone, Copy, PartialEq, Eq)]
 pub enum Symbol {
     Open,
     Close,
@@ -117,7 +117,7 @@ pub enum Symbol {
 /// What the grammar sees of a token: its kind, with the folded bytes of a word, the name of a
 /// quoted name, and the bytes of every other token. A word or a sign that the grammar knows is its
 /// symbol, and `!=` is `<>`.
-#[derive(Debug, Drop)]
+#[derive(Drop)]
 pub enum Reading {
     Symbol(Symbol),
     /// A word that is no symbol.
@@ -137,7 +137,7 @@ pub enum Reading {
 }
 
 /// A token as the grammar sees it.
-#[derive(Debug, Drop)]
+#[derive(Drop)]
 pub struct Lexeme {
     pub reading: Reading,
     pub place: Place,

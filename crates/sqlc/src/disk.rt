@@ -51,7 +51,8 @@ fn fault_of(error: &io::Error) -> TreeFault {
 /// The most entries that a folder may have.
 const MOST_ENTRIES: usize = 1_048_576;
 
-// The names of a folder's entries.
+// The names of a folder's entries. A name that is not UTF-8 is an error: its file could be meant, and has no
+// path in a configuration or a line.
 fn names<R: Files + AllocGlobal + Clone + Drop>(
     rt: &R,
     alloc: Global,
@@ -67,7 +68,7 @@ fn names<R: Files + AllocGlobal + Clone + Drop>(
     Ok(names)
 }
 
-// What stands at a path.
+// What stands at a path, which may be a link. A pipe, a device and a socket are no file and no folder.
 fn standing<R: Files + AllocGlobal + Clone + Drop>(
     rt: &R,
     alloc: Global,
@@ -83,7 +84,26 @@ fn standing<R: Files + AllocGlobal + Clone + Drop>(
     Err(io::Error::from(ErrorKind::NotFound))
 }
 
-// The bytes of a file, up to a limit and one more.
+/// How often a call is made again that a signal has interrupted.
+const MOST_TRIES: u32 = 1_048_576;
+
+// What stands at a path. A call that a signal has interrupted is made again.
+fn listing<R: Files + AllocGlobal + Clone + Drop>(
+    rt: &R,
+    alloc: Global,
+    path: &str,
+) -> io::Result<Listing> {
+    for _ in 0..MOST_TRIES {
+        match standing(rt, alloc, path) {
+            Err(error) if error.kind() == ErrorKind::Interrupted => {}
+            answer => return answer,
+        }
+    }
+    Err(io::Error::from(ErrorKind::Interrupted))
+}
+
+// The bytes of a file, up to a limit and one more. What is no file is not opened: a pipe would wait for
+// its writer. The calls below are made again where a signal has interrupted them.
 fn bytes<R: Files + AllocGlobal>(
     rt: &R,
     alloc: Global,
@@ -93,6 +113,9 @@ fn bytes<R: Files + AllocGlobal>(
     requires { limit < 2 ^ 32 }
     ensures { IfOk result (λ bytes. length bytes ≤ limit + 1) }
 {
+    if !fs::metadata(rt, path)?.is_file() {
+        return Err(io::Error::from(ErrorKind::NotFound));
+    }
     let mut bytes = Vec::new(alloc);
     fs::open(rt, path)?
         .take(limit as u64 + 1)
@@ -105,7 +128,7 @@ impl<R: Files + AllocGlobal + Clone + Drop> Tree for DiskTree<'_, R> {
     ghost state = { λ tree. record { files = None; calls = None; faults = tree.faults; missings = tree.missings } };
 
     fn list(&mut self, alloc: Global, path: &str) -> Result<Listing, TreeFault> {
-        match standing(self.rt, alloc, path) {
+        match listing(self.rt, alloc, path) {
             Ok(listing) => Ok(listing),
             Err(error) => {
                 let fault = fault_of(&error);
@@ -148,8 +171,20 @@ impl<'a, R: Files> DiskOut<'a, R> {
     }
 }
 
-// Writes a file, and makes the folders that it needs.
+// Whether something stands at a path that is no file: a folder, a pipe, a device or a socket.
+fn is_no_file<R: Files>(rt: &R, path: &str) -> bool {
+    match fs::metadata(rt, path) {
+        Ok(metadata) => !metadata.is_file(),
+        Err(_) => false,
+    }
+}
+
+// Writes a file, and makes the folders that it needs. What is no file is not opened: a pipe would wait for
+// its reader.
 fn write_file<R: Files>(rt: &R, path: &str, bytes: &[u8]) -> io::Result<()> {
+    if is_no_file(rt, path) {
+        return Err(io::Error::from(ErrorKind::AlreadyExists));
+    }
     if let Some((folder, _)) = path.rsplit_once('/') {
         if !folder.is_empty() {
             fs::create_dir_all(rt, folder)?;
@@ -158,11 +193,22 @@ fn write_file<R: Files>(rt: &R, path: &str, bytes: &[u8]) -> io::Result<()> {
     fs::write(rt, path, bytes)
 }
 
+// Writes a file. A call that a signal has interrupted is made again.
+fn write_whole<R: Files>(rt: &R, path: &str, bytes: &[u8]) -> io::Result<()> {
+    for _ in 0..MOST_TRIES {
+        match write_file(rt, path, bytes) {
+            Err(error) if error.kind() == ErrorKind::Interrupted => {}
+            answer => return answer,
+        }
+    }
+    Err(io::Error::from(ErrorKind::Interrupted))
+}
+
 impl<R: Files> Out for DiskOut<'_, R> {
     ghost state = { λ out. record { files = None; calls = None; faults = out.faults } };
 
     fn put(&mut self, path: &str, bytes: &[u8]) -> Result<(), OutFault> {
-        match write_file(self.rt, path, bytes) {
+        match write_whole(self.rt, path, bytes) {
             Ok(()) => Ok(()),
             Err(_) => {
                 self.faults = self.faults.saturating_add(1);

@@ -8,30 +8,37 @@ mod tests;
 
 use disk::{DiskOut, DiskTree};
 use screen::Screen;
-use sq_run::sqlc;
+use sq_plan::tell_memory;
+use sq_run::{Inputs, sqlc};
 use std::alloc::{AllocError, Global};
 use std::env;
 use std::env::Env;
+use std::io::ErrorKind;
 use std::process::ExitCode;
 
-/// The words behind the program's name, or none where the system doesn't give them.
+/// The words behind the program's name, or none where they are no UTF-8.
 fn words(alloc: Global, rt: &(impl Env + AllocGlobal)) -> Result<Vec<String>, AllocError> {
     let mut words = Vec::new(alloc);
-    if let Ok(args) = env::args(rt) {
-        for word in args.skip(1) {
-            words.push(word)?;
+    match env::args(rt) {
+        Ok(args) => {
+            for word in args.skip(1) {
+                words.push(word)?;
+            }
+            Ok(words)
         }
+        Err(error) if error.kind() == ErrorKind::OutOfMemory => Err(AllocError),
+        Err(_) => Ok(words),
     }
-    Ok(words)
 }
 
 fn main(rt: HostRuntime) -> ExitCode {
     let alloc = rt.alloc();
+    let mut screen = Screen::new(&rt);
     let Ok(words) = words(alloc, &rt) else {
-        return ExitCode::from(5);
+        return ExitCode::from(tell_memory(&mut screen).code());
     };
     let mut tree = DiskTree::new(&rt);
     let mut out = DiskOut::new(&rt);
-    let mut screen = Screen::new(&rt);
-    ExitCode::from(sqlc(alloc, words, &mut tree, &mut out, &mut screen).code())
+    let inputs = Inputs { words };
+    ExitCode::from(sqlc(alloc, inputs, &mut tree, &mut out, &mut screen).code())
 }

@@ -1,5 +1,5 @@
-use Rattle.sq_core.proofs.TypingRules.{columns_typed}
+use Rattle.sq_core.proofs.ColumnLemmas.{select_columns_typed}
 use Rattle.sq_core.proofs.laws.select_of_columns_is_typed.Goals as goal
 
 pub returns : goal.returns
-returns c = columns_typed
+returns c = select_columns_typed

@@ -1,6 +1,6 @@
 use Rattle.std.proofs.Common.{◌≡◌, map, take}
 use Rattle.std.specs.List.{flat_map, list_any}
-use Rattle.sq_core.specs.Layout.{is_of_sql, model_forms, model_struct}
+use Rattle.sq_shown.specs.Layout.{is_of_sql, model_forms, model_struct}
 use Rattle.sq_go.proofs.body.model_body.Given as goal
 
 -- the structs of the models so far

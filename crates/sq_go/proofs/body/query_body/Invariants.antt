@@ -1,6 +1,6 @@
 use Rattle.std.proofs.Common.{◌≡◌, take}
 use Rattle.std.specs.List.{flat_map, list_any}
-use Rattle.sq_core.specs.Layout.{is_of_sql, query_forms, query_declarations}
+use Rattle.sq_shown.specs.Layout.{is_of_sql, query_forms, query_declarations}
 use Rattle.sq_go.proofs.body.query_body.Given as goal
 
 -- the declarations of the queries so far

@@ -1,5 +1,5 @@
 use Rattle.std.proofs.Common.{◌≡◌, drop}
-use Rattle.sq_core.specs.Names.{has_equal}
+use Rattle.sq_shown.specs.Names.{has_equal}
 use Rattle.sq_go.proofs.clash.has_equal.Given as goal
 
 -- no name so far has an equal one

@@ -1,6 +1,6 @@
 use Rattle.std.proofs.Common.{◌≡◌, ◌++◌, map, take}
-use Rattle.sq_core.specs.Layout.{queries_of}
-use Rattle.sq_core.specs.declared.declaration.QuerySig.{QuerySig}
+use Rattle.sq_shown.specs.Layout.{queries_of}
+use Rattle.sq_shown.specs.declared.declaration.QuerySig.{QuerySig}
 use Rattle.sq_go.proofs.clash.push_all_query_names.Given as goal
 
 -- the queries of the files so far

@@ -1,6 +1,6 @@
 use Rattle.std.proofs.Common.{◌≡◌, ◌++◌, take}
 use Rattle.std.specs.List.{flat_map}
-use Rattle.sq_core.specs.Names.{query_top}
+use Rattle.sq_shown.specs.Names.{query_top}
 use Rattle.sq_go.proofs.clash.push_file_top.Given as goal
 
 -- the queries so far

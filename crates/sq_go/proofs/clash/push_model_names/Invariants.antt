@@ -1,5 +1,5 @@
 use Rattle.std.proofs.Common.{◌≡◌, ◌++◌, map, take}
-use Rattle.sq_core.specs.Layout.{model_name}
+use Rattle.sq_shown.specs.Layout.{model_name}
 use Rattle.sq_go.proofs.clash.push_model_names.Given as goal
 
 -- the models so far

@@ -1,6 +1,6 @@
 use Rattle.std.proofs.Common.{◌≡◌, ◌++◌, map, take}
-use Rattle.sq_core.specs.Layout.{query_path}
-use Rattle.sq_core.specs.declared.declaration.QueryFile.{QueryFile}
+use Rattle.sq_shown.specs.Layout.{query_path}
+use Rattle.sq_shown.specs.declared.declaration.QueryFile.{QueryFile}
 use Rattle.sq_go.proofs.clash.push_paths.Given as goal
 
 -- the files so far

@@ -1,7 +1,7 @@
 use Rattle.std.proofs.Common.{◌≡◌, ◌++◌, take}
 use Rattle.std.specs.List.{flat_map}
-use Rattle.sq_core.specs.Layout.{queries_of}
-use Rattle.sq_core.specs.Names.{query_top}
+use Rattle.sq_shown.specs.Layout.{queries_of}
+use Rattle.sq_shown.specs.Names.{query_top}
 use Rattle.sq_go.proofs.clash.push_queries_top.Given as goal
 
 -- the queries of the files so far

@@ -1,5 +1,5 @@
 use Rattle.std.proofs.Common.{◌≡◌, ◌++◌, map, take}
-use Rattle.sq_core.specs.declared.declaration.QuerySig.{QuerySig}
+use Rattle.sq_shown.specs.declared.declaration.QuerySig.{QuerySig}
 use Rattle.sq_go.proofs.clash.push_query_names.Given as goal
 
 -- the queries so far

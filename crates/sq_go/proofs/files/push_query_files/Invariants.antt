@@ -1,5 +1,5 @@
 use Rattle.std.proofs.Common.{◌≡◌, ◌++◌, take}
-use Rattle.sq_core.specs.Layout.{query_files}
+use Rattle.sq_shown.specs.Layout.{query_files}
 use Rattle.sq_go.proofs.files.push_query_files.Given as goal
 
 -- the files so far

@@ -1,6 +1,6 @@
 use Rattle.std.proofs.Common.{◌≡◌, ◌++◌, take}
 use Rattle.std.specs.List.{flat_map}
-use Rattle.sq_core.specs.Layout.{field_line}
+use Rattle.sq_shown.specs.Layout.{field_line}
 use Rattle.sq_go.proofs.line.push_fields.Given as goal
 
 -- the fields so far are written

@@ -1,6 +1,6 @@
 use Rattle.std.proofs.Common.{◌≡◌, ◌++◌, map, take}
 use Rattle.std.specs.List.{flat_map}
-use Rattle.sq_core.specs.Layout.{import_line}
+use Rattle.sq_shown.specs.Layout.{import_line}
 use Rattle.sq_go.proofs.line.push_import_lines.Given as goal
 
 -- the imports so far are written

@@ -1,6 +1,6 @@
 use Rattle.std.proofs.Common.{◌≡◌, ◌++◌, take}
 use Rattle.std.specs.List.{flat_map}
-use Rattle.sq_core.specs.Lines.{empty_line}
+use Rattle.sq_shown.specs.Lines.{empty_line}
 use Rattle.sq_go.proofs.line.push_later.Given as goal
 
 -- the declarations so far are written

@@ -1,5 +1,5 @@
 use Rattle.std.proofs.Common.{◌≡◌, ◌++◌, length}
-use Rattle.sq_core.specs.Layout.{raw}
+use Rattle.sq_shown.specs.Layout.{raw}
 use Rattle.sq_go.proofs.raw.push_raw.Given as goal
 
 -- the text so far is written

@@ -1,7 +1,7 @@
 use Rattle.std.proofs.Common.{◌≡◌, drop}
 use Rattle.std.specs.Prelude.{find, nat_eq, option_map}
-use Rattle.sq_core.specs.Layout.{model_name}
-use Rattle.sq_core.specs.declared.declaration.ModelDecl.{ModelDecl}
+use Rattle.sq_shown.specs.Layout.{model_name}
+use Rattle.sq_shown.specs.declared.declaration.ModelDecl.{ModelDecl}
 use Rattle.sq_go.proofs.row.model_with_id.Given as goal
 
 -- no model so far has the id

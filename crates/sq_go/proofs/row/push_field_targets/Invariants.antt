@@ -1,6 +1,6 @@
 use Rattle.std.proofs.Common.{◌≡◌, ◌++◌, map, take}
 use Rattle.std.specs.List.{flat_map}
-use Rattle.sq_core.specs.Layout.{field_target, target_line}
+use Rattle.sq_shown.specs.Layout.{field_target, target_line}
 use Rattle.sq_go.proofs.row.push_field_targets.Given as goal
 
 -- the targets so far are written

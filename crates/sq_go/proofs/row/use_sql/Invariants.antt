@@ -1,6 +1,6 @@
 use Rattle.std.proofs.Common.{◌≡◌, drop}
 use Rattle.std.specs.List.{list_any}
-use Rattle.sq_core.specs.Layout.{forms, is_of_sql}
+use Rattle.sq_shown.specs.Layout.{forms, is_of_sql}
 use Rattle.sq_go.proofs.row.use_sql.Given as goal
 
 -- no field so far has such a type

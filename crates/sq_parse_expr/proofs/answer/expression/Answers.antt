@@ -20,7 +20,7 @@ returns-in-Ok c =
     let same : c.as_slice.result.now ≡ map lexeme tokens = c.as_slice.ensures ∙ c.in_ok-lexemes.ensures.1 in
     let found : whole (expressions 65) (map lexeme tokens) ≡ Some c.in-Ok.found = ap (λ (xs : List Lexeme). whole (expressions 65) xs) (sym same) ∙ c.in-Ok.ensures in
     let few : c.height.result ≤ 256 = omega (arith, c.if-height-le-MOST_HEIGHT.true) in
-    rw c.into_part.ensures (c.in_ok-lexemes.ensures.0, expression_found tokens c.in-Ok.found c.in_ok-lexemes.ensures.0 found, low height _ _ c.in-Ok.found c.part.ensures c.height.ensures few)
+    (c.in_ok-lexemes.ensures.0, expression_found tokens c.in-Ok.found c.in_ok-lexemes.ensures.0 found, low height _ _ c.in-Ok.found c.part.ensures c.height.ensures few)
 
 pub returns-in-Ok-2 : goal.returns-in-Ok-2
 returns-in-Ok-2 c =

@@ -20,7 +20,7 @@ returns-in-Ok c =
     let same : c.as_slice.result.now ≡ map lexeme tokens = c.as_slice.ensures ∙ c.in_ok-lexemes.ensures.1 in
     let found : whole (queries 65) (map lexeme tokens) ≡ Some c.in-Ok.found = ap (λ (xs : List Lexeme). whole (queries 65) xs) (sym same) ∙ c.in-Ok.ensures in
     let few : c.query_height.result ≤ 256 = omega (arith, c.if-query_height-le-MOST_HEIGHT.true) in
-    rw c.into_part.ensures (c.in_ok-lexemes.ensures.0, query_found tokens c.in-Ok.found c.in_ok-lexemes.ensures.0 found, low query_height _ _ c.in-Ok.found c.part.ensures c.query_height.ensures few)
+    (c.in_ok-lexemes.ensures.0, query_found tokens c.in-Ok.found c.in_ok-lexemes.ensures.0 found, low query_height _ _ c.in-Ok.found c.part.ensures c.query_height.ensures few)
 
 pub returns-in-Ok-2 : goal.returns-in-Ok-2
 returns-in-Ok-2 c =

@@ -20,7 +20,7 @@ returns-in-Ok c =
     let same : c.as_slice.result.now ≡ map lexeme tokens = c.as_slice.ensures ∙ c.in_ok-lexemes.ensures.1 in
     let found : whole (statements 65) (map lexeme tokens) ≡ Some c.in-Ok.found = ap (λ (xs : List Lexeme). whole (statements 65) xs) (sym same) ∙ c.in-Ok.ensures in
     let few : c.statement_height.result ≤ 256 = omega (arith, c.if-statement_height-le-MOST_HEIGHT.true) in
-    rw c.into_part.ensures (c.in_ok-lexemes.ensures.0, statement_found tokens c.in-Ok.found c.in_ok-lexemes.ensures.0 found, low statement_height _ _ c.in-Ok.found c.part.ensures c.statement_height.ensures few)
+    (c.in_ok-lexemes.ensures.0, statement_found tokens c.in-Ok.found c.in_ok-lexemes.ensures.0 found, low statement_height _ _ c.in-Ok.found c.part.ensures c.statement_height.ensures few)
 
 pub returns-in-Ok-2 : goal.returns-in-Ok-2
 returns-in-Ok-2 c =

@@ -1,5 +1,5 @@
 use Rattle.std.proofs.Common.{arith, Some, List, ap, sym, subst}
-use Rattle.sq_core.specs.declared.signature.ShownField.{ShownField}
+use Rattle.sq_shown.specs.declared.signature.ShownField.{ShownField}
 use Rattle.sq_reader.specs.Forms.{field_at}
 use Rattle.sq_reader.proofs.Many.{IsToldOf, told_none, told_one, told_end}
 use Rattle.sq_reader.proofs.forms.fields_of.Goals as goal

@@ -1,15 +1,16 @@
 use Rattle.std.proofs.Common.{◌≡◌, ℕ, List, Result, Ok, Err, subst}
 use Rattle.std.proofs.lemmas.Result.{err_from_is_err_and}
 use Rattle.sq_base.specs.Tree.{TreeState}
-use Rattle.sq_core.specs.declared.declaration.QueryFile.{QueryFile}
-use Rattle.sq_run.specs.declared.entries.Purpose.{Purpose}
-use Rattle.sq_run.specs.declared.entries.Purpose.TheVariants.{Schema, Queries}
-use Rattle.sq_run.specs.declared.halt.Finding.{Finding}
-use Rattle.sq_run.specs.declared.halt.Halt.{Halt}
+use Rattle.sq_shown.specs.declared.declaration.QueryFile.{QueryFile}
+use Rattle.sq_plan.specs.declared.entries.Purpose.{Purpose}
+use Rattle.sq_plan.specs.declared.entries.Purpose.TheVariants.{Schema, Queries}
+use Rattle.sq_plan.specs.declared.halt.Finding.{Finding}
+use Rattle.sq_plan.specs.declared.halt.Halt.{Halt}
 use Rattle.sq_run.specs.declared.sources.SourceFile.{SourceFile}
-use Rattle.sq_run.specs.Asked.{Follows, Judges, each_judged}
-use Rattle.sq_run.specs.Project.{output_of_entry, sources, catalogue_of, declared_in, models_of, written}
-use Rattle.sq_run.proofs.Steps.{followed, stopped, judged_follows}
+use Rattle.sq_plan.specs.Asked.{Follows, Judges, each_judged}
+use Rattle.sq_plan.specs.Outputs.{output_of_entry}
+use Rattle.sq_run.specs.Project.{sources, catalogue_of, declared_in, models_of, written}
+use Rattle.sq_plan.proofs.Steps.{followed, stopped, judged_follows}
 use Rattle.sq_run.proofs.blocks.judge_block.Goals as goal
 
 -- the sources at these paths were read

@@ -1,7 +1,7 @@
 use Rattle.std.proofs.Common.{arith, Ok}
 use Rattle.std.proofs.lemmas.Result.{err_from_is_err_and}
 use Rattle.sq_run.specs.Project.{block_files}
-use Rattle.sq_run.proofs.Together.{one_more, halted, none_left}
+use Rattle.sq_plan.proofs.Together.{one_more, halted, none_left}
 use Rattle.sq_run.proofs.blocks.judge_blocks.Goals as goal
 
 pub returns-in_err-so_far : goal.returns-in_err-so_far

@@ -1,6 +1,6 @@
 use Rattle.std.proofs.Common.{drop}
 use Rattle.sq_run.specs.Project.{declared_in}
-use Rattle.sq_run.proofs.EachJudged.{Carries}
+use Rattle.sq_plan.proofs.EachJudged.{Carries}
 use Rattle.sq_run.proofs.declare.declare_queries.Given as goal
 
 abbrev pub invariant-loop-file : goal.invariant-loop-file

@@ -1,8 +1,8 @@
 use Rattle.std.proofs.Common.{◌≡◌, ◌∙◌, ◌+◌, ℕ, Some, None, drop, length, sym, ap, suc, arith, lit<, refl}
 use Rattle.std.proofs.lemmas.List.{length-take}
 use Rattle.std.proofs.lemmas.Str.Pattern.{rfind_char}
-use Rattle.sq_run.specs.Paths.{folder_of}
-use Rattle.sq_run.proofs.Folders.{folder_of-none, folder_of-last}
+use Rattle.sq_config.specs.Paths.{folder_of}
+use Rattle.sq_config.proofs.Folders.{folder_of-none, folder_of-last}
 use Rattle.sq_run.proofs.declare.file_name.Goals as goal
 
 pub returns-in-Some : goal.returns-in-Some

@@ -1,6 +1,6 @@
 use Rattle.std.proofs.lemmas.Result.{err_from_is_err_and}
 use Rattle.sq_run.specs.Project.{configured}
-use Rattle.sq_run.proofs.Steps.{followed, stopped, judged_follows}
+use Rattle.sq_plan.proofs.Steps.{followed, stopped, judged_follows}
 use Rattle.sq_run.proofs.project.read_configuration.Goals as goal
 
 pub returns-in_err-bytes : goal.returns-in_err-bytes

@@ -1,5 +1,5 @@
-use Rattle.sq_run.specs.declared.entries.Purpose.TheVariants.{Schema}
-use Rattle.sq_run.proofs.Marked.{bytes_read_size}
+use Rattle.sq_plan.specs.declared.entries.Purpose.TheVariants.{Schema}
+use Rattle.sq_plan.proofs.Marked.{bytes_read_size}
 use Rattle.sq_run.proofs.sources.bytes_read.Goals as goal
 
 pub returns-in-Schema-clause-within : goal.returns-in-Schema-clause-within

@@ -1,11 +1,11 @@
 use Rattle.std.proofs.Common.{◌≡◌, ℕ, List, Result, arith, Ok, subst}
 use Rattle.std.proofs.lemmas.Result.{err_from_is_err_and}
-use Rattle.sq_run.specs.Project.{listed}
+use Rattle.sq_plan.specs.Reading.{listed}
 use Rattle.sq_base.specs.Tree.{TreeState}
-use Rattle.sq_run.specs.declared.entries.Purpose.{Purpose}
-use Rattle.sq_run.specs.declared.halt.Halt.{Halt}
-use Rattle.sq_run.specs.Asked.{Follows}
-use Rattle.sq_run.proofs.Together.{one_more, halted, none_left}
+use Rattle.sq_plan.specs.declared.entries.Purpose.{Purpose}
+use Rattle.sq_plan.specs.declared.halt.Halt.{Halt}
+use Rattle.sq_plan.specs.Asked.{Follows}
+use Rattle.sq_plan.proofs.Together.{one_more, halted, none_left}
 use Rattle.sq_run.proofs.sources.list_paths.Goals as goal
 
 path_listed : (purpose : Purpose) (path given : List ℕ) (old new : TreeState) {r : Result (List (List ℕ)) Halt} → given ≡ path → Follows (listed purpose given) old new r → Follows (listed purpose path) old new r

@@ -1,8 +1,8 @@
 use Rattle.std.proofs.Common.{Result, ℕ, List, drop}
 use Rattle.sq_base.specs.Tree.{TreeState}
-use Rattle.sq_run.specs.declared.halt.Halt.{Halt}
-use Rattle.sq_run.specs.Asked.{Follows, gathered, ended_with}
-use Rattle.sq_run.specs.Project.{listed}
+use Rattle.sq_plan.specs.declared.halt.Halt.{Halt}
+use Rattle.sq_plan.specs.Asked.{Follows, gathered, ended_with}
+use Rattle.sq_plan.specs.Reading.{listed}
 use Rattle.sq_run.proofs.sources.list_paths.Given as goal
 
 abbrev pub invariant-loop-path : goal.invariant-loop-path

@@ -1,12 +1,12 @@
 use Rattle.std.proofs.Common.{rules, ◌≡◌, ℕ, List, Result, arith, Ok, subst}
 use Rattle.std.proofs.lemmas.Result.{err_from_is_err_and}
 use Rattle.sq_base.specs.Tree.{TreeState}
-use Rattle.sq_run.specs.declared.entries.Purpose.{Purpose}
-use Rattle.sq_run.specs.declared.halt.Halt.{Halt}
+use Rattle.sq_plan.specs.declared.entries.Purpose.{Purpose}
+use Rattle.sq_plan.specs.declared.halt.Halt.{Halt}
 use Rattle.sq_run.specs.declared.sources.SourceFile.{SourceFile}
-use Rattle.sq_run.specs.Asked.{Follows}
+use Rattle.sq_plan.specs.Asked.{Follows}
 use Rattle.sq_run.specs.Project.{source}
-use Rattle.sq_run.proofs.Together.{one_more, halted, none_left}
+use Rattle.sq_plan.proofs.Together.{one_more, halted, none_left}
 use Rattle.sq_run.proofs.sources.read_all.Goals as goal
 
 -- the source of this number and path was read

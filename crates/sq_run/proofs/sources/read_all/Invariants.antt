@@ -1,8 +1,8 @@
 use Rattle.std.proofs.Common.{Result, List, drop}
 use Rattle.sq_base.specs.Tree.{TreeState}
-use Rattle.sq_run.specs.declared.halt.Halt.{Halt}
+use Rattle.sq_plan.specs.declared.halt.Halt.{Halt}
 use Rattle.sq_run.specs.declared.sources.SourceFile.{SourceFile}
-use Rattle.sq_run.specs.Asked.{Follows, gathered, ended_with}
+use Rattle.sq_plan.specs.Asked.{Follows, gathered, ended_with}
 use Rattle.sq_run.specs.Project.{source}
 use Rattle.sq_run.proofs.sources.read_all.Given as goal
 

@@ -1,8 +1,8 @@
 use Rattle.std.proofs.lemmas.Result.{err_from_is_err_and}
 use Rattle.sq_lexer.specs.TokenList.{token_list}
 use Rattle.sq_run.specs.Project.{with_tokens}
-use Rattle.sq_run.specs.Sources.{bytes_read}
-use Rattle.sq_run.proofs.Steps.{followed, stopped, judged_follows}
+use Rattle.sq_plan.specs.Sources.{bytes_read}
+use Rattle.sq_plan.proofs.Steps.{followed, stopped, judged_follows}
 use Rattle.sq_run.proofs.sources.read_source.Goals as goal
 
 pub returns-in_err-bytes : goal.returns-in_err-bytes

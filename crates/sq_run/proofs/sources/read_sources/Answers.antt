@@ -1,7 +1,7 @@
 use Rattle.std.proofs.Common.{Ok, Err}
 use Rattle.std.proofs.lemmas.Result.{err_from_is_err_and}
 use Rattle.sq_run.specs.Project.{counted}
-use Rattle.sq_run.proofs.Steps.{followed, stopped, judged_follows}
+use Rattle.sq_plan.proofs.Steps.{followed, stopped, judged_follows}
 use Rattle.sq_run.proofs.sources.read_sources.Goals as goal
 
 pub returns-in_err-found : goal.returns-in_err-found

@@ -1,7 +1,7 @@
 use Rattle.std.proofs.lemmas.Result.{err_from_is_err_and}
 use Rattle.std.proofs.Common.{arith}
 use Rattle.sq_run.specs.Project.{written}
-use Rattle.sq_run.proofs.EachJudged.{one_more_at, halted_judged, none_judged}
+use Rattle.sq_plan.proofs.EachJudged.{one_more_at, halted_judged, none_judged}
 use Rattle.sq_run.proofs.write.write_all.Goals as goal
 
 pub returns-in_err-so_far : goal.returns-in_err-so_far

@@ -1,6 +1,6 @@
 use Rattle.std.proofs.Common.{drop}
 use Rattle.sq_run.specs.Project.{written}
-use Rattle.sq_run.proofs.EachJudged.{Carries}
+use Rattle.sq_plan.proofs.EachJudged.{Carries}
 use Rattle.sq_run.proofs.write.write_all.Given as goal
 
 abbrev pub invariant-loop-output : goal.invariant-loop-output

@@ -1,13 +1,20 @@
-use Rattle.std.proofs.Common.{rules}
+use Rattle.std.proofs.Common.{rules, refl}
 use Rattle.sq_base.proofs.Held.{put_here, put_elsewhere}
+use Rattle.sq_base.proofs.memory_out.MemoryOutOut.put.Goals.{in-Ok, in-Err}
 use Rattle.sq_base.proofs.memory_out.MemoryOutOut.put.Goals as goal
 
-pub returns-in-Ok-clause-put : goal.returns-in-Ok-clause-put
-returns-in-Ok-clause-put c =
-    let after = c.in-Ok.ensures.ok in
-    record {
-      others = λ other apart. rw after (put_elsewhere c.args.path.now c.args.bytes.now other apart c.args.self.now.files);
-      file = rw after (put_here c.args.path.now c.args.bytes.now c.args.self.now.files);
-      calls = search rules;
-      faults = search rules;
-    }
+pub returns-clause-put : goal.returns-clause-put
+returns-clause-put c = elim c.match-put_new.branch [
+  | in-Ok w ↦ rw (w.result-is, ← c.self.view_is) record {
+    others = λ other apart. rw w.in-Ok.ensures.ok (put_elsewhere c.args.path.now c.args.bytes.now other apart c.self.inside.files);
+    file = rw w.in-Ok.ensures.ok (put_here c.args.path.now c.args.bytes.now c.self.inside.files);
+    calls = search rules;
+    faults = search rules;
+  }
+  | in-Err w ↦ rw (w.result-is, ← c.self.view_is) record {
+    others = λ other apart. rw w.in-Err.ensures.err refl;
+    file = tt;
+    calls = search rules;
+    faults = search rules;
+  }
+]

@@ -3,7 +3,7 @@ use Rattle.sq_catalog.specs.Answers.{Answers}
 use Rattle.sq_catalog.specs.Columns.{placed}
 use Rattle.sq_catalog.specs.Contents.{Contents}
 use Rattle.sq_catalog.specs.UserTypes.{place_of_enum, labelled, label_renamed}
-use Rattle.sq_catalog.specs.declared.change.ChangeFault.{ChangeFault}
+use Rattle.sq_catalog.specs.declared.change.Cause.{Cause}
 use Rattle.sq_catalog.specs.declared.table.EnumType.{EnumType}
 use Rattle.sq_catalog.proofs.LabelsAgain.{labelled_at}
 use Rattle.sq_catalog.proofs.catalogue.Catalogue.rename_value.Goals as goal
@@ -18,7 +18,7 @@ returns c =
       given = c.self.inside.given;
     } in
     let same : before ≡ c.args.self.now = c.self.view_is in
-    let change : List (List ℕ) → Result (List (List ℕ)) ChangeFault = λ (labels : List (List ℕ)). label_renamed labels c.args.from c.args.to in
+    let change : List (List ℕ) → Result (List (List ℕ)) Cause = λ (labels : List (List ℕ)). label_renamed labels c.args.from c.args.to in
     let found : Some c.in-Some.at ≡ place_of_enum before c.as_str.result.now c.as_str-2.result.now =
     subst (λ (v : Contents). Some c.in-Some.at ≡ place_of_enum v c.as_str.result.now c.as_str-2.result.now) (sym same) c.in-Some.ensures.place in
     let within : c.in-Some.at < length before.enums = subst (λ (v : Contents). c.in-Some.at < length v.enums) (sym same) c.in-Some.ensures.within in

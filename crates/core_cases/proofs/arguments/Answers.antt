@@ -1,0 +1,5 @@
+use Rattle.core_cases.proofs.ArgumentsCases.{holds}
+use Rattle.core_cases.proofs.arguments.Goals as goal
+
+pub returns : goal.returns
+returns c = holds

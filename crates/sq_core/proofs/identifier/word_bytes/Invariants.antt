@@ -1,7 +1,0 @@
-use Rattle.std.proofs.Common.{◌≡◌, map, take}
-use Rattle.sq_core.specs.Identifiers.{word_byte}
-use Rattle.sq_core.proofs.identifier.word_bytes.Given as goal
-
--- the bytes so far are written
-abbrev pub invariant-loop-byte : goal.invariant-loop-byte
-invariant-loop-byte l = l.word ≡ map word_byte (take l.byte-index l.text)

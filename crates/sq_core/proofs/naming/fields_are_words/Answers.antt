@@ -1,6 +1,0 @@
-use Rattle.std.proofs.Common.{[]}
-use Rattle.sq_core.proofs.FieldLemmas.{fields-words, columns-words}
-use Rattle.sq_core.proofs.naming.fields_are_words.Goals as goal
-
-pub returns : goal.returns
-returns c = record { fields = λ columns. fields-words columns []; columns = columns-words }

@@ -1,0 +1,11 @@
+use Rattle.std.proofs.Common.{◌≡◌, ◌-◌}
+use Rattle.sq_syntax.specs.declared.symbol.Symbol.TheVariants.{Comma}
+use Rattle.sq_grammar.specs.Reading.{sees}
+use Rattle.sq_parse_ddl.specs.Parts.{next_label}
+use Rattle.sq_grammar.specs.Reading.{many, many_from}
+use Rattle.sq_lexemes.proofs.Turns.{ahead}
+use Rattle.sq_parse_ddl.proofs.lists.more_labels.Given as goal
+
+abbrev pub invariant-loop-turn : goal.invariant-loop-turn
+invariant-loop-turn l =
+    many (sees Comma) next_label l.fn.tokens ≡ ahead l.found (many_from (sees Comma) next_label (l._turn-end - l._turn) l.tokens)

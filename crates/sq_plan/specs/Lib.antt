@@ -1,0 +1,12 @@
+pub mod Asked
+pub mod Deliver
+pub mod Each
+pub mod Findings
+pub mod Halts
+pub mod Lines
+pub mod Options
+pub mod Outputs
+pub mod Reading
+pub mod Rollback
+pub mod Sources
+pub mod Status

@@ -1,7 +1,0 @@
-use Rattle.std.proofs.Common.{◌≡◌, drop}
-use Rattle.serde_json.specs.View.{items_view}
-use Rattle.sq_run.specs.Shape as shape
-use Rattle.sq_run.proofs.configuration.blocks.bad_block_of.Given as goal
-
-abbrev pub invariant-loop-index : goal.invariant-loop-index
-invariant-loop-index l = shape.first_bad_item shape.bad_block l.at l.index (items_view (drop l.index l.items)) ≡ shape.first_bad_item shape.bad_block l.at 0 (items_view l.items)

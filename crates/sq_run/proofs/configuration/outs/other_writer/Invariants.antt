@@ -1,6 +1,0 @@
-use Rattle.std.proofs.Common.{◌≡◌, drop, map}
-use Rattle.sq_run.specs.Outs as outs
-use Rattle.sq_run.proofs.configuration.outs.other_writer.Given as goal
-
-abbrev pub invariant-loop-entry : goal.invariant-loop-entry
-invariant-loop-entry l = outs.other_writer (map (λ e. e.now) (drop l.entry-index l.entries)) ≡ outs.other_writer (map (λ e. e.now) l.entries)

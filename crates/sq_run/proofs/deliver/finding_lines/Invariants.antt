@@ -1,6 +1,0 @@
-use Rattle.std.proofs.Common.{◌≡◌, ◌++◌, drop, map}
-use Rattle.sq_run.specs.Lines.{finding_line}
-use Rattle.sq_run.proofs.deliver.finding_lines.Given as goal
-
-abbrev pub invariant-loop-finding : goal.invariant-loop-finding
-invariant-loop-finding l = l.lines ++ map finding_line (drop l.finding-index l.findings) ≡ map finding_line l.findings

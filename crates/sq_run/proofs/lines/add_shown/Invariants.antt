@@ -1,6 +1,0 @@
-use Rattle.std.proofs.Common.{◌≡◌, ◌++◌, drop}
-use Rattle.sq_run.specs.Lines.{shown}
-use Rattle.sq_run.proofs.lines.add_shown.Given as goal
-
-abbrev pub invariant-loop-byte : goal.invariant-loop-byte
-invariant-loop-byte l = l.line ++ shown (drop l.byte-index l.text) ≡ l.fn.line ++ shown l.text

@@ -1,7 +1,0 @@
-use Rattle.std.proofs.Common.{drop}
-use Rattle.sq_run.specs.Project.{output_of_entry}
-use Rattle.sq_run.proofs.EachJudged.{Carries}
-use Rattle.sq_run.proofs.outputs.outputs_of.Given as goal
-
-abbrev pub invariant-loop-entry : goal.invariant-loop-entry
-invariant-loop-entry l = Carries (output_of_entry l.configuration) l.entries (drop l.entry-index l.entries) l.so_far

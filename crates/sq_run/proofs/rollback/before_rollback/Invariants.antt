@@ -1,5 +1,0 @@
-use Rattle.sq_run.proofs.Marked.{IsReadTo}
-use Rattle.sq_run.proofs.rollback.before_rollback.Given as goal
-
-abbrev pub invariant-loop-at : goal.invariant-loop-at
-invariant-loop-at l = IsReadTo l.bytes l.at l.line_begins

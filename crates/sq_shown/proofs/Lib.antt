@@ -1,0 +1,5 @@
+pub mod Ascii
+mod Bools
+mod FieldLemmas
+mod PackageLemmas
+mod WordLemmas

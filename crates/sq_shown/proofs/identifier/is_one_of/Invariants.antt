@@ -1,0 +1,8 @@
+use Rattle.std.proofs.Common.{◌≡◌, map, drop}
+use Rattle.std.specs.Prelude.{bytes_eq}
+use Rattle.std.specs.List.{list_any}
+use Rattle.sq_shown.proofs.identifier.is_one_of.Given as goal
+
+-- no name so far is this one
+abbrev pub invariant-loop-other : goal.invariant-loop-other
+invariant-loop-other l = list_any (bytes_eq l.name) (map (λ other. other.now) (drop l.other-index l.names)) ≡ list_any (bytes_eq l.name) (map (λ other. other.now) l.names)

@@ -8,6 +8,10 @@ use sq_base::{
 use sq_plan::Status;
 use sq_run::{Inputs, sqlc};
 use std::alloc::{AllocError, Global};
+use std::fs;
+use std::io::pipe;
+use std::os::fd::AsRawFd;
+use std::os::unix::fs::symlink;
 use std::test::Fail;
 
 const CONFIGURATION: &str =
@@ -193,22 +197,101 @@ fn the_disk_keeps_what_is_put(rt: HostRuntime) -> Result<(), Fail> {
     let alloc = rt.alloc();
     let mut out = DiskOut::new(&rt);
     let mut tree = DiskTree::new(&rt);
-    assert!(rt; out.put("kept/inner/a.txt", b"some text").is_ok());
-    let bytes = tree.read(alloc, "kept/inner/a.txt", 3);
+    assert!(rt; out.put("out/kept/inner/a.txt", b"some text").is_ok());
+    let bytes = tree.read(alloc, "out/kept/inner/a.txt", 3);
     assert!(rt; matches!(&bytes, Ok(bytes) if bytes.as_slice() == b"some".as_slice()));
-    let inner = tree.list(alloc, "kept/inner");
+    let inner = tree.list(alloc, "out/kept/inner");
     assert!(rt; matches!(&inner, Ok(Listing::Folder(names)) if names.len() == 1));
-    assert!(rt; matches!(tree.list(alloc, "kept/inner/a.txt"), Ok(Listing::File)));
-    assert!(rt; matches!(tree.list(alloc, "kept/nothing"), Err(TreeFault::Missing)));
+    assert!(rt; matches!(tree.list(alloc, "out/kept/inner/a.txt"), Ok(Listing::File)));
     assert!(rt;
         matches!(
-            tree.list(alloc, "kept/inner/a.txt/b"),
+            tree.list(alloc, "out/kept/nothing"),
             Err(TreeFault::Missing)
         )
     );
-    assert!(rt; matches!(tree.read(alloc, "kept/inner", 3), Err(TreeFault::Missing)));
+    assert!(rt;
+        matches!(
+            tree.list(alloc, "out/kept/inner/a.txt/b"),
+            Err(TreeFault::Missing)
+        )
+    );
+    assert!(rt;
+        matches!(
+            tree.read(alloc, "out/kept/inner", 3),
+            Err(TreeFault::Missing)
+        )
+    );
     assert_eq!(rt; tree.missings(), 3);
     assert_eq!(rt; tree.faults(), 0);
     assert_eq!(rt; out.faults(), 0);
+    Ok(())
+}
+
+/// Whether nothing is found at a path, listed and read.
+fn is_missing<T: Tree>(alloc: Global, tree: &mut T, path: &str) -> bool {
+    matches!(tree.list(alloc, path), Err(TreeFault::Missing))
+        && matches!(tree.read(alloc, path, 3), Err(TreeFault::Missing))
+}
+
+#[test]
+fn what_is_no_file_is_not_opened(rt: HostRuntime) -> Result<(), Fail> {
+    let alloc = rt.alloc();
+    let mut out = DiskOut::new(&rt);
+    let mut tree = DiskTree::new(&rt);
+    assert!(rt; out.put("out/linked/a.sql", b"some text").is_ok());
+    if fs::symlink_metadata(&rt, "out/linked/device.sql").is_err() {
+        symlink(&rt, "/dev/null", "out/linked/device.sql")?;
+    }
+    // A pipe whose writer is open: who reads it waits for bytes.
+    let (reader, writer) = pipe(&rt)?;
+    let name = format!(in alloc; "/dev/fd/{}", reader.as_raw_fd())?;
+    assert!(rt; is_missing(alloc, &mut tree, "/dev/null"));
+    assert!(rt; is_missing(alloc, &mut tree, "out/linked/device.sql"));
+    assert!(rt; is_missing(alloc, &mut tree, name.as_str()));
+    assert!(rt; out.put("/dev/null", b"some text").is_err());
+    assert!(rt; out.put("out/linked/device.sql", b"some text").is_err());
+    assert!(rt; out.put("out/linked", b"some text").is_err());
+    assert_eq!(rt; tree.missings(), 6);
+    assert_eq!(rt; tree.faults(), 0);
+    assert_eq!(rt; out.faults(), 3);
+    drop(writer);
+    Ok(())
+}
+
+/// A project in a folder of its own.
+const IN_A_FOLDER: &[(&str, &str)] = &[
+    ("out/project/sqlc.json", CONFIGURATION),
+    ("out/project/schema.sql", SCHEMA),
+    ("out/project/q.sql", QUERY),
+];
+
+#[test]
+fn the_program_writes_to_the_disk(rt: HostRuntime) -> Result<(), Fail> {
+    let alloc = rt.alloc();
+    let words: &[&str] = &["generate", "-f", "out/project/sqlc.json"];
+    let mut out = DiskOut::new(&rt);
+    for (path, text) in IN_A_FOLDER {
+        assert!(rt; out.put(path, text.as_bytes()).is_ok());
+    }
+    let mut tree = DiskTree::new(&rt);
+    let mut screen = StillSink::new(alloc)?;
+    let inputs = Inputs {
+        words: held_words(alloc, words)?,
+    };
+    let status = sqlc(alloc, inputs, &mut tree, &mut out, &mut screen);
+    assert_eq!(rt; status, Status::Done);
+    assert!(rt; screen.text().is_empty());
+    // The files are those that a tree in memory gives.
+    let mut held = StillTree::new(alloc, held_files(alloc, IN_A_FOLDER)?)?;
+    let mut put = StillOut::new(alloc, List::new(alloc))?;
+    let inputs = Inputs {
+        words: held_words(alloc, words)?,
+    };
+    sqlc(alloc, inputs, &mut held, &mut put, &mut screen);
+    assert_eq!(rt; put.files().len(), 3);
+    for file in put.files() {
+        let bytes = tree.read(alloc, file.path.as_str(), 1_000_000);
+        assert!(rt; matches!(&bytes, Ok(bytes) if bytes.as_slice() == file.bytes.as_slice()));
+    }
     Ok(())
 }

@@ -1,2 +1,2 @@
 -- name: ListT :many
-SELECT id, name FROM t;
+SELECT id, name FROM u;

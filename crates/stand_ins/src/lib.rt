@@ -1,0 +1,13 @@
+//! Stand-ins for the public functions of the crates whose proofs take long: each has the contract of
+//! one of them, and calls it. The edits beside them put wrong answers in the calls' places, which
+//! shows for little time that the contracts refuse those.
+#![tactic(auto)]
+
+pub mod catalogues;
+pub mod expressions;
+pub mod files;
+pub mod heights;
+pub mod lexemes;
+pub mod replays;
+pub mod statements;
+pub mod words;

@@ -8,7 +8,7 @@ if [ ! -f "$example/sqlc.json" ]; then
     echo "There is no example '$example'. There are:" */ >&2
     exit 2
 fi
-echo "Building crates/sqlc/out/sqlc. The first build proves every crate and takes over an hour; later ones take seconds." >&2
+echo "Building crates/sqlc/out/sqlc. The first build proves every crate and takes over an hour of one processor; later ones take about a minute." >&2
 rm -f "$program"
 # Without words the program only says how it is called, with status 2: this call is for its build.
 (cd ../crates/sqlc && rt run) >/dev/null || true

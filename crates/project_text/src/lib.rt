@@ -14,4 +14,4 @@ pub use identifiers::Identifiers;
 pub use layouts::Layouts;
 pub use projects::Projects;
 pub use reading::Reading;
-pub use replays::Replays;
+pub use replays::{Replays, statements};

@@ -19,7 +19,7 @@ fn is_semicolon(token: &Token) -> bool {
 }
 
 /// The statements of a text. A text that is too long has none.
-fn statements(alloc: Global, text: &str) -> Result<List<Ddl>, Fault> {
+pub fn statements(alloc: Global, text: &str) -> Result<List<Ddl>, Fault> {
     let mut read = List::new(alloc);
     if text.len() > limits::MOST_FILE_BYTES {
         return Ok(read);

@@ -1,13 +1,15 @@
 //! What is read of a schema file, what is put, and what is printed.
 
-ghost use Rattle.std.specs.Prelude.{◌≡◌, Some, IfOk};
-ghost use Rattle.sq_plan.specs.Asked.{Joins};
+ghost use Rattle.std.specs.Prelude.{◌≡◌, ◌∷◌, ◌++◌, [], Some, IfOk, OnOk};
+ghost use Rattle.sq_plan.specs.Asked.{Joins, Judges};
 ghost use Rattle.sq_plan.specs.Deliver;
 ghost use Rattle.sq_plan.specs.Deliver.{PutsAll, Shows, files_of};
+ghost use Rattle.sq_plan.specs.Findings.{in_source};
+ghost use Rattle.sq_plan.specs.Folds.{unless_found};
 ghost use Rattle.sq_plan.specs.Rollback;
 
-use sq_base::{File, List, Out, Sink};
-use sq_plan::{Ending, Halt, PutFault, Report, SoFar, Status};
+use sq_base::{File, List, Out, Refusal, Sink};
+use sq_plan::{Ending, Finding, Halt, Joined, PutFault, Report, SoFar, Status};
 use std::alloc::{AllocError, Global};
 
 pub fn before_rollback(bytes: &[u8]) -> &[u8]
@@ -16,10 +18,27 @@ pub fn before_rollback(bytes: &[u8]) -> &[u8]
     sq_plan::before_rollback(bytes)
 }
 
-pub fn join(so_far: SoFar<File>, part: Result<List<File>, Halt>) -> Result<SoFar<File>, Halt>
+pub fn join(so_far: Joined<File>, part: Result<List<File>, Halt>) -> Result<Joined<File>, Halt>
     ensures { Joins so_far part result }
 {
     sq_plan::join(so_far, part)
+}
+
+pub fn unless_found(done: SoFar<List<File>>) -> Result<List<File>, Halt>
+    ensures { Judges (unless_found done) result }
+{
+    done.unless_found()
+}
+
+pub fn list_refusal(
+    alloc: Global,
+    found: &mut List<Finding>,
+    path: &str,
+    refusal: Refusal,
+) -> Result<(), AllocError>
+    ensures { OnOk result (found.new ≡ found.old ++ in_source path.now refusal ∷ []) }
+{
+    sq_plan::list_refusal(alloc, found, path, refusal)
 }
 
 pub fn put_accepted<O: Out>(out: &mut O, ending: &Ending) -> Result<(), PutFault>

@@ -10,9 +10,9 @@ use Rattle.sq_builtin.specs.declared.group.Group.{Group}
 use Rattle.sq_builtin.specs.declared.row.Row.{Row}
 use Rattle.sq_builtin.specs.Entries.{entry_of}
 use Rattle.sq_builtin.specs.Groups.{rows_of, is_of_calls}
-use Rattle.sq_builtin.specs.Operators.{unary, equal, less, greater, sums, products, matches}
+use Rattle.sq_builtin.specs.Operators.{operators}
 use Rattle.sq_builtin.specs.Functions.{none, one, two, three, four, five, six, seven, eight, ten, twelve, fourteen, sixteen}
-use Rattle.sq_builtin.specs.Rows.{is_call, is_call_of, known, parts}
+use Rattle.sq_builtin.specs.Rows.{is_call, is_call_of, known, table}
 
 -- rows of one name have no other
 pub no_call :
@@ -65,39 +65,14 @@ groups_call name (group ∷ groups) sound =
     grind (arith, common_steps)
 
 -- no operator is a call
-pub no_equal : (name : List ℕ) → list_any (is_call_of name) equal ≡ false
-unfolding equal
-no_equal name = refl
-
-pub no_less : (name : List ℕ) → list_any (is_call_of name) less ≡ false
-unfolding less
-no_less name = refl
-
-pub no_greater : (name : List ℕ) → list_any (is_call_of name) greater ≡ false
-unfolding greater
-no_greater name = refl
-
-pub no_sums : (name : List ℕ) → list_any (is_call_of name) sums ≡ false
-unfolding sums
-no_sums name = refl
-
-pub no_products : (name : List ℕ) → list_any (is_call_of name) products ≡ false
-unfolding products
-no_products name = refl
-
-pub no_matches : (name : List ℕ) → list_any (is_call_of name) matches ≡ false
-unfolding matches
-no_matches name = refl
-
-pub no_unary : (name : List ℕ) → list_any (is_call_of name) unary ≡ false
-unfolding unary
-no_unary name = refl
+pub no_operator : (name : List ℕ) → list_any (is_call_of name) operators ≡ false
+unfolding operators
+no_operator name = refl
 
 -- the calls of the table are those of the functions and aggregates
 pub calls_of_table :
     (name : List ℕ) →
     known name ≡
-    (list_any (is_call_of name) none || (list_any (is_call_of name) one || (list_any (is_call_of name) two || (list_any (is_call_of name) three || (list_any (is_call_of name) four || (list_any (is_call_of name) five || (list_any (is_call_of name) six || (list_any (is_call_of name) seven || (list_any (is_call_of name) eight || (list_any (is_call_of name) ten || (list_any (is_call_of name) twelve || (list_any (is_call_of name) fourteen || (list_any (is_call_of name) sixteen || false)))))))))))))
-unfolding parts
-calls_of_table name =
-    simp (list_any-append, no_equal name, no_less name, no_greater name, no_sums name, no_products name, no_matches name, no_unary name)
+    (list_any (is_call_of name) none || list_any (is_call_of name) one || list_any (is_call_of name) two || list_any (is_call_of name) three || list_any (is_call_of name) four || list_any (is_call_of name) five || list_any (is_call_of name) six || list_any (is_call_of name) seven || list_any (is_call_of name) eight || list_any (is_call_of name) ten || list_any (is_call_of name) twelve || list_any (is_call_of name) fourteen || list_any (is_call_of name) sixteen)
+unfolding table
+calls_of_table name = simp (list_any-append, no_operator name)

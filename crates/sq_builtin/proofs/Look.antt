@@ -1,5 +1,5 @@
 -- The rows of a name and a count of inputs are those of its group in its part of the table.
-use Rattle.std.proofs.Common.{◌≡◌, ℕ, ◌≤◌, Bool, true, false, not, if◌then◌else◌, ◌&&◌, ◌==◌, List, [], ◌∷◌, ◌++◌, Some, length, map, filter, flat_map, refl, subst, arith, All}
+use Rattle.std.proofs.Common.{◌≡◌, ℕ, ◌≤◌, Bool, true, false, not, if◌then◌else◌, ◌&&◌, ◌||◌, ◌==◌, List, [], ◌∷◌, ◌++◌, Some, length, map, filter, flat_map, refl, ap, subst, ◌∙◌, arith, All}
 use Rattle.std.specs.Prelude.{bytes_eq}
 use Rattle.std.specs.List.{list_all, list_any}
 use Rattle.std.proofs.lemmas.Grind.{common_steps}
@@ -10,8 +10,8 @@ use Rattle.std.proofs.lemmas.Slice.Eq.{bytes_eq-Decides}
 use Rattle.sq_builtin.specs.declared.group.Group.{Group}
 use Rattle.sq_builtin.specs.declared.row.Row.{Row}
 use Rattle.sq_builtin.specs.Entries.{Entry}
-use Rattle.sq_builtin.specs.Groups.{rows_of, named, found, is_called, is_sound, are_sound}
-use Rattle.sq_builtin.specs.Rows.{Part, has_name_and_count, part_at}
+use Rattle.sq_builtin.specs.Groups.{Part, rows_of, named, found, is_called, is_sound, are_sound, lane, part_at}
+use Rattle.sq_builtin.specs.Rows.{has_name_and_count}
 
 -- a test that every element passes keeps them all
 pub filter_all : {X : Type 0} (p : X → Bool) (xs : List X) → list_all p xs ≡ true → filter p xs ≡ xs
@@ -149,97 +149,109 @@ found_inputs name count (group ∷ groups) sound =
     choice name count group groups true here there = here
     choice name count group groups false here there = there
 
--- whether every entry of a part has its lane and its count of inputs, where this gives the lane
-abbrev pub is_part : (List ℕ → ℕ) → Part → Bool
-is_part lane part =
-    list_all (λ (entry : Entry). lane entry.name == part.at_lane && length entry.inputs == part.at_count) part.entries
+-- ---- the entries of a name and a count are in one part of the table
+
+-- whether an entry is in a lane and has a count of inputs
+abbrev pub is_in : ℕ → ℕ → Entry → Bool
+is_in at_lane count entry = lane entry.name == at_lane && length entry.inputs == count
+
+-- each of these parts has the entries of its lane and its count, of these
+abbrev pub AreParts : List Entry → List Part → Type 0
+AreParts table [] = Unit
+AreParts table (part ∷ parts) =
+    (filter (is_in part.at_lane part.at_count) table ≡ part.entries) × AreParts table parts
+
+-- whether an entry is in one of these parts
+abbrev pub in_some : List Part → Entry → Bool
+in_some parts entry = list_any (λ (part : Part). is_in part.at_lane part.at_count entry) parts
+
+-- a test that holds wherever another does changes nothing of what passes the other
+filter_within :
+    {X : Type 0} (p q : X → Bool) (holds : (x : X) → p x ≡ true → q x ≡ true) (xs : List X) →
+    filter p xs ≡ filter p (filter q xs)
+filter_within p q holds [] = refl
+filter_within p q holds (x ∷ xs) = grind (arith, common_steps, holds x, filter_within p q holds xs)
+
+-- what a test tells of each element
+all_more :
+    {X : Type 0} (p q : X → Bool) (tells : (x : X) → p x ≡ true → q x ≡ true) (xs : List X) →
+    list_all p xs ≡ true → list_all q xs ≡ true
+all_more p q tells [] all = refl
+all_more p q tells (x ∷ xs) all = grind (arith, common_steps, tells x, all_more p q tells xs)
+
+-- an entry of a name and a count is in the lane of the name
+in_its_lane : (name : List ℕ) (count : ℕ) (entry : Entry) → has_name_and_count name count entry ≡ true → is_in (lane name) count entry ≡ true
+in_its_lane name count entry is =
+    let same : entry.name ≡ name = (bytes_eq-Decides entry.name name).0 (grind (arith, common_steps)) in
+    let many : (length entry.inputs == count) ≡ true = grind (arith, common_steps) in
+    rw (same, many) (grind (arith, common_steps, nat_tests))
+
+-- whether an entry is in one of these parts, if it has a name and a count
+abbrev pub is_covered : List ℕ → ℕ → List Part → Entry → Bool
+is_covered name count parts entry = not (has_name_and_count name count entry) || in_some parts entry
 
 -- whether a part is at a lane and a count
 abbrev pub is_at : ℕ → ℕ → Part → Bool
-is_at lane count part = part.at_lane == lane && part.at_count == count
-
--- whether no two parts are at one lane and one count
-abbrev pub are_apart : List Part → Bool
-are_apart [] = true
-are_apart (part ∷ parts) = not (list_any (is_at part.at_lane part.at_count) parts) && are_apart parts
-
--- an entry of another part has another name or count
-pub other_entry :
-    (lane : List ℕ → ℕ) (name : List ℕ) (count : ℕ) (part : Part) →
-    is_at (lane name) count part ≡ false → (entry : Entry) →
-    (lane entry.name == part.at_lane && length entry.inputs == part.at_count) ≡ true →
-    has_name_and_count name count entry ≡ false
-other_entry lane name count part differs entry is =
-    grind (arith, common_steps, nat_tests, bytes_eq-Decides entry.name name)
-
--- a part elsewhere has no entry of the name and the count
-pub part_other :
-    (lane : List ℕ → ℕ) (name : List ℕ) (count : ℕ) (part : Part) → is_part lane part ≡ true →
-    is_at (lane name) count part ≡ false → filter (has_name_and_count name count) part.entries ≡ []
-part_other lane name count part sound differs =
-    filter_none (has_name_and_count name count)
-    (λ (entry : Entry). lane entry.name == part.at_lane && length entry.inputs == part.at_count)
-    (other_entry lane name count part differs) part.entries sound
-
--- the entries of parts, one after the other
-abbrev pub entries_of : List Part → List Entry
-entries_of parts = flat_map (λ part. part.entries) parts
-
--- parts elsewhere have no entry of the name and the count
-pub parts_other :
-    (lane : List ℕ → ℕ) (name : List ℕ) (count : ℕ) (parts : List Part) →
-    list_all (is_part lane) parts ≡ true → list_any (is_at (lane name) count) parts ≡ false →
-    filter (has_name_and_count name count) (entries_of parts) ≡ []
-parts_other lane name count [] sound differ = refl
-parts_other lane name count (part ∷ parts) sound differ =
-    let first : is_part lane part ≡ true = grind (arith, common_steps) in
-    let here : is_at (lane name) count part ≡ false = grind (arith, common_steps) in
-    let none : filter (has_name_and_count name count) part.entries ≡ [] = part_other lane name count part first here in
-    let rest : list_all (is_part lane) parts ≡ true = grind (arith, common_steps) in
-    let there : list_any (is_at (lane name) count) parts ≡ false = grind (arith, common_steps) in
-    let later : filter (has_name_and_count name count) (entries_of parts) ≡ [] = parts_other lane name count parts rest there in
-    let e : filter (has_name_and_count name count) (part.entries ++ entries_of parts) ≡ filter (has_name_and_count name count) part.entries ++ filter (has_name_and_count name count) (entries_of parts) = filter-append (has_name_and_count name count) part.entries (entries_of parts) in
-    grind (arith, common_steps)
+is_at at_lane count part = part.at_lane == at_lane && part.at_count == count
 
 -- what a place tells
-pub is_at-tells : (lane count : ℕ) (part : Part) → is_at lane count part ≡ true → (part.at_lane ≡ lane) × (part.at_count ≡ count)
-is_at-tells lane count part is =
-    let one : part.at_lane ≡ lane = grind (arith, common_steps, nat_tests) in
+is_at-tells : (at_lane count : ℕ) (part : Part) → is_at at_lane count part ≡ true → (part.at_lane ≡ at_lane) × (part.at_count ≡ count)
+is_at-tells at_lane count part is =
+    let one : part.at_lane ≡ at_lane = grind (arith, common_steps, nat_tests) in
     let other : part.at_count ≡ count = grind (arith, common_steps, nat_tests) in
     (one, other)
 
+-- an entry of a name and a count is in no part but that of the lane and the count
+covered_later :
+    (name : List ℕ) (count : ℕ) (part : Part) (parts : List Part) → is_at (lane name) count part ≡ false →
+    (entry : Entry) → is_covered name count (part ∷ parts) entry ≡ true → is_covered name count parts entry ≡ true
+covered_later name count part parts elsewhere entry is = either (has_name_and_count name count entry) refl
+  where
+    either : (has : Bool) → has_name_and_count name count entry ≡ has → is_covered name count parts entry ≡ true
+    either false e = rw e refl
+    either true e =
+        let here : is_in (lane name) count entry ≡ true = in_its_lane name count entry e in
+        let apart : is_in part.at_lane part.at_count entry ≡ false = grind (arith, common_steps, nat_tests) in
+        grind (arith, common_steps)
+
+-- an entry that has a name and a count is in some part
+none_covered :
+    (name : List ℕ) (count : ℕ) (entries : List Entry) → list_all (is_covered name count []) entries ≡ true →
+    filter (has_name_and_count name count) entries ≡ []
+none_covered name count [] all = refl
+none_covered name count (entry ∷ entries) all = grind (arith, common_steps, none_covered name count entries)
+
+-- the entries of a name and a count are those in this part, if it is theirs, and else those in a later one
+in_first_or_later :
+    (table : List Entry) (name : List ℕ) (count : ℕ) (part : Part) (parts : List Part) (here : Bool) → is_at (lane name) count part ≡ here →
+    filter (is_in part.at_lane part.at_count) table ≡ part.entries →
+    (list_all (is_covered name count parts) table ≡ true →
+    filter (has_name_and_count name count) table ≡ filter (has_name_and_count name count) (part_at (lane name) count parts)) →
+    list_all (is_covered name count (part ∷ parts)) table ≡ true →
+    filter (has_name_and_count name count) table
+    ≡ filter (has_name_and_count name count) (if here then part.entries else part_at (lane name) count parts)
+in_first_or_later table name count part parts true is entries later all =
+    let both = is_at-tells (lane name) count part is in
+    filter_within (has_name_and_count name count) (is_in part.at_lane part.at_count)
+    (λ entry has. rw (both.0, both.1) (in_its_lane name count entry has)) table
+    ∙ ap (filter (has_name_and_count name count)) entries
+in_first_or_later table name count part parts false is entries later all =
+    later
+    (all_more (is_covered name count (part ∷ parts)) (is_covered name count parts) (covered_later name count part parts is) table all)
+
 -- the entries of a name and a count are those in its part
 pub entries_of_parts :
-    (lane : List ℕ → ℕ) (name : List ℕ) (count : ℕ) (parts : List Part) →
-    list_all (is_part lane) parts ≡ true → are_apart parts ≡ true →
-    filter (has_name_and_count name count) (entries_of parts) ≡ filter (has_name_and_count name count) (part_at (lane name) count parts)
-entries_of_parts lane name count [] sound apart = refl
-entries_of_parts lane name count (part ∷ parts) sound apart =
-    let first : is_part lane part ≡ true = grind (arith, common_steps) in
-    let rest : list_all (is_part lane) parts ≡ true = grind (arith, common_steps) in
-    let alone : list_any (is_at part.at_lane part.at_count) parts ≡ false = grind (arith, common_steps) in
-    let later : are_apart parts ≡ true = grind (arith, common_steps) in
-    let after : filter (has_name_and_count name count) (entries_of parts) ≡ filter (has_name_and_count name count) (part_at (lane name) count parts) = entries_of_parts lane name count parts rest later in
-    let e : filter (has_name_and_count name count) (part.entries ++ entries_of parts) ≡ filter (has_name_and_count name count) part.entries ++ filter (has_name_and_count name count) (entries_of parts) = filter-append (has_name_and_count name count) part.entries (entries_of parts) in
-    step lane name count part parts (is_at (lane name) count part) refl first rest alone after e
-  where
-    step :
-        (lane : List ℕ → ℕ) (name : List ℕ) (count : ℕ) (part : Part) (parts : List Part) (here : Bool) →
-        is_at (lane name) count part ≡ here → is_part lane part ≡ true →
-        list_all (is_part lane) parts ≡ true →
-        list_any (is_at part.at_lane part.at_count) parts ≡ false →
-        filter (has_name_and_count name count) (entries_of parts) ≡ filter (has_name_and_count name count) (part_at (lane name) count parts) →
-        filter (has_name_and_count name count) (part.entries ++ entries_of parts) ≡ filter (has_name_and_count name count) part.entries ++ filter (has_name_and_count name count) (entries_of parts) →
-        filter (has_name_and_count name count) (entries_of (part ∷ parts)) ≡ filter (has_name_and_count name count) (if here then part.entries else part_at (lane name) count parts)
-    step lane name count part parts true is first rest alone after e =
-        let both = is_at-tells (lane name) count part is in
-        let far : list_any (is_at (lane name) part.at_count) parts ≡ false =
-        subst (λ (l : ℕ). list_any (is_at l part.at_count) parts ≡ false) both.0 alone in
-        let farther : list_any (is_at (lane name) count) parts ≡ false =
-        subst (λ (n : ℕ). list_any (is_at (lane name) n) parts ≡ false) both.1 far in
-        let nothing : filter (has_name_and_count name count) (entries_of parts) ≡ [] = parts_other lane name count parts rest farther in
-        let end : filter (has_name_and_count name count) part.entries ++ [] ≡ filter (has_name_and_count name count) part.entries = append-nil (filter (has_name_and_count name count) part.entries) in
-        grind (arith, common_steps)
-    step lane name count part parts false is first rest alone after e =
-        let here : filter (has_name_and_count name count) part.entries ≡ [] = part_other lane name count part first is in
-        grind (arith, common_steps)
+    (table : List Entry) (name : List ℕ) (count : ℕ) (parts : List Part) → AreParts table parts →
+    list_all (is_covered name count parts) table ≡ true →
+    filter (has_name_and_count name count) table ≡ filter (has_name_and_count name count) (part_at (lane name) count parts)
+entries_of_parts table name count [] are all = none_covered name count table all
+entries_of_parts table name count (part ∷ parts) are all =
+    in_first_or_later table name count part parts (is_at (lane name) count part) refl are.0
+    (entries_of_parts table name count parts are.1) all
+
+-- each entry of a table that is in some part is covered
+pub all_covered :
+    (name : List ℕ) (count : ℕ) (parts : List Part) (table : List Entry) → list_all (in_some parts) table ≡ true →
+    list_all (is_covered name count parts) table ≡ true
+all_covered name count parts table all =
+    all_more (in_some parts) (is_covered name count parts) (λ entry is. grind (arith, common_steps)) table all

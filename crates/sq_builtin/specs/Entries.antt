@@ -109,7 +109,7 @@ takes types = map Takes types
 abbrev pub twice : PgType → List PgType
 twice of = of ∷ of ∷ []
 
--- null exactly where an input is null
+-- null exactly where an input is null; of an aggregate, not null where it has a row and no input is null
 abbrev pub strict : Kind → List ℕ → List Pattern → Shape → Entry
 strict kind name inputs result =
     record { name = name; inputs = inputs; result = result; strict = true; may_null = false; kind = kind }
@@ -145,6 +145,6 @@ function name inputs result = strict Function name (takes inputs) (Gives result)
 abbrev pub function_may_null : List ℕ → List PgType → PgType → Entry
 function_may_null name inputs result = strict_may_null Function name (takes inputs) (Gives result)
 
--- an aggregate that is null exactly where it has no row or an input is null
+-- an aggregate that is not null where it has a row and no input is null, and else may be
 abbrev pub aggregate : List ℕ → List PgType → PgType → Entry
 aggregate name inputs result = strict Aggregate name (takes inputs) (Gives result)

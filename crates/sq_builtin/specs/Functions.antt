@@ -204,3 +204,8 @@ fourteen = build_object 14
 
 unfoldable pub sixteen : List Entry
 sixteen = build_object 16
+
+-- the functions and aggregates, by the count of their inputs
+abbrev pub functions : List Entry
+functions =
+    none ++ one ++ two ++ three ++ four ++ five ++ six ++ seven ++ eight ++ ten ++ twelve ++ fourteen ++ sixteen

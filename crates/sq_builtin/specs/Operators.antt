@@ -111,34 +111,44 @@ part_at_path name of_json of_jsonb =
     operator_may_null name (jsonb ∷ texts ∷ []) of_jsonb ∷ []
 
 -- the operators before an operand
-unfoldable pub unary : List Entry
-unary =
+abbrev pub signs : List Entry
+signs =
     map (λ of. operator (codes "-") (of ∷ []) of) (numbers ++ iv ∷ []) ++
     map (λ of. operator (codes "+") (of ∷ []) of) numbers
 
--- the binary operators that begin with =
-unfoldable pub equal : List Entry
-equal = equation (codes "=")
+-- comparisons
+abbrev pub comparisons : List Entry
+comparisons =
+    equation (codes "=") ++ equation (codes "<>") ++
+    comparison (codes "<") ++ comparison (codes "<=") ++ comparison (codes ">") ++ comparison (codes ">=")
 
--- the binary operators that begin with <
-unfoldable pub less : List Entry
-less = equation (codes "<>") ++ comparison (codes "<") ++ comparison (codes "<=") ++ containment (codes "<@")
+-- matches of patterns
+abbrev pub pattern_matches : List Entry
+pattern_matches =
+    like (codes "~~") ++ like (codes "!~~") ++
+    pattern_match (codes "~~*") ++ pattern_match (codes "!~~*") ++
+    pattern_match (codes "~") ++ pattern_match (codes "~*") ++
+    pattern_match (codes "!~") ++ pattern_match (codes "!~*")
 
--- the binary operators that begin with >
-unfoldable pub greater : List Entry
-greater = comparison (codes ">") ++ comparison (codes ">=")
+-- what JSON and arrays have in common, and which keys JSON has
+abbrev pub overlaps : List Entry
+overlaps =
+    strict Operator (codes "&&") (AnyArray ∷ AnyArray ∷ []) (Gives bool) ∷
+    operator (codes "?") (jsonb ∷ text ∷ []) bool ∷
+    operator (codes "?|") (jsonb ∷ texts ∷ []) bool ∷
+    operator (codes "?&") (jsonb ∷ texts ∷ []) bool ∷ []
 
--- the binary operators that begin with + or -
-unfoldable pub sums : List Entry
-sums =
-    arithmetic (codes "+") ++ sums_of_times ++
-    arithmetic (codes "-") ++ differences ++
-    part (codes "->") json jsonb ++
-    part (codes "->>") text text
+-- + of numbers, of dates and times
+abbrev pub plus : List Entry
+plus = arithmetic (codes "+") ++ sums_of_times
 
--- the binary operators that begin with *, /, % or ^
-unfoldable pub products : List Entry
-products =
+-- - of numbers, of dates and times, and of JSON
+abbrev pub minus : List Entry
+minus = arithmetic (codes "-") ++ differences
+
+-- * and / of numbers and of intervals, % and ^
+abbrev pub multiplications : List Entry
+multiplications =
     arithmetic (codes "*") ++
     operator (codes "*") (iv ∷ float8 ∷ []) iv ∷
     operator (codes "*") (float8 ∷ iv ∷ []) iv ∷ [] ++
@@ -147,22 +157,24 @@ products =
     map (λ of. operator (codes "%") (twice of) of) (int2 ∷ int4 ∷ int8 ∷ num ∷ []) ++
     map (λ of. operator (codes "^") (twice of) of) (float8 ∷ num ∷ [])
 
--- every other binary operator
-unfoldable pub matches : List Entry
-matches =
-    like (codes "~~") ++ like (codes "!~~") ++
-    pattern_match (codes "~~*") ++ pattern_match (codes "!~~*") ++
-    pattern_match (codes "~") ++ pattern_match (codes "~*") ++
-    pattern_match (codes "!~") ++ pattern_match (codes "!~*") ++
-    containment (codes "@>") ++
-    strict Operator (codes "&&") (AnyArray ∷ AnyArray ∷ []) (Gives bool) ∷
-    operator (codes "?") (jsonb ∷ text ∷ []) bool ∷
-    operator (codes "?|") (jsonb ∷ texts ∷ []) bool ∷
-    operator (codes "?&") (jsonb ∷ texts ∷ []) bool ∷
+-- || of texts, of bytes and of JSON
+abbrev pub joins : List Entry
+joins =
     operator (codes "||") (text ∷ text ∷ []) text ∷
     strict Operator (codes "||") (Takes text ∷ AnyNonArray ∷ []) (Gives text) ∷
     strict Operator (codes "||") (AnyNonArray ∷ Takes text ∷ []) (Gives text) ∷
     operator (codes "||") (bytea ∷ bytea ∷ []) bytea ∷
-    operator (codes "||") (jsonb ∷ jsonb ∷ []) jsonb ∷ [] ++
-    part_at_path (codes "#>") json jsonb ++
-    part_at_path (codes "#>>") text text
+    operator (codes "||") (jsonb ∷ jsonb ∷ []) jsonb ∷ []
+
+-- parts of JSON
+abbrev pub parts_of_json : List Entry
+parts_of_json =
+    part (codes "->") json jsonb ++ part (codes "->>") text text ++
+    part_at_path (codes "#>") json jsonb ++ part_at_path (codes "#>>") text text
+
+-- the operators, name by name
+unfoldable pub operators : List Entry
+operators =
+    signs ++ comparisons ++ pattern_matches ++
+    containment (codes "@>") ++ containment (codes "<@") ++ overlaps ++
+    plus ++ minus ++ multiplications ++ joins ++ parts_of_json

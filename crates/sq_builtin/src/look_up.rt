@@ -3,9 +3,9 @@
 ghost use Rattle.std.specs.Prelude.{◌≡◌, ◌≤◌, ◌==◌, ◌||◌, All, IsTrue, bytes_eq, not, length, map};
 ghost use Rattle.std.specs.List.{list_all, list_any};
 ghost use Rattle.sq_builtin.specs.Entries.{entry_of};
-ghost use Rattle.sq_builtin.specs.Groups.{are_sound, found, is_of_calls, named, rows_of};
+ghost use Rattle.sq_builtin.specs.Groups.{are_sound, found, is_of_calls, lane, named, part_at, parts, rows_of};
 ghost use Rattle.sq_builtin.specs.Functions;
-ghost use Rattle.sq_builtin.specs.Rows.{is_among, is_call_of, known, lane, part_at, parts, rows};
+ghost use Rattle.sq_builtin.specs.Rows.{is_among, is_call_of, known, rows};
 
 use crate::group::Group;
 use crate::parts::{
@@ -30,7 +30,7 @@ fn lane(name: &str) -> u8
 }
 
 // The groups of functions and aggregates of a count of inputs.
-#[tactic(auto, unfolding(crate::specs::Rows::parts))]
+#[tactic(auto, unfolding(crate::specs::Groups::parts))]
 fn words(count: usize) -> &'static [Group]
     ensures entries { map entry_of (rows_of result.now) ≡ part_at 97 count parts }
     ensures sound { IsTrue (are_sound count result.now) }
@@ -54,7 +54,7 @@ fn words(count: usize) -> &'static [Group]
 }
 
 // The groups of operators of a lane and a count of operands.
-#[tactic(auto, unfolding(crate::specs::Rows::parts))]
+#[tactic(auto, unfolding(crate::specs::Groups::parts))]
 fn operators(lane: u8, count: usize) -> &'static [Group]
     requires { IsTrue (not (lane == 97)) }
     ensures entries { map entry_of (rows_of result.now) ≡ part_at lane count parts }

@@ -3,8 +3,7 @@
 ghost use Rattle.std.specs.Prelude.{◌≡◌, IsTrue, map};
 ghost use Rattle.std.specs.List.{list_all};
 ghost use Rattle.sq_builtin.specs.Entries.{entry_of};
-ghost use Rattle.sq_builtin.specs.Groups.{are_sound, is_of_calls, rows_of};
-ghost use Rattle.sq_builtin.specs.Operators.{equal, less, greater, sums, products, matches, unary};
+ghost use Rattle.sq_builtin.specs.Groups.{are_sound, equal, greater, is_of_calls, less, matches, products, rows_of, sums, unary};
 ghost use Rattle.sq_builtin.specs.Functions.{none, one, two, three, four, five, six, seven, eight, ten, twelve, fourteen, sixteen};
 
 use crate::functions::{
@@ -13,7 +12,7 @@ use crate::functions::{
 use crate::group::Group;
 use crate::operators::{EQUAL, GREATER, LESS, MATCHES, PRODUCTS, SUMS, UNARY};
 
-#[tactic(auto, unfolding(crate::specs::Operators::equal))]
+#[tactic(auto, unfolding(crate::specs::Groups::equal))]
 pub fn equal() -> &'static [Group]
     ensures entries { map entry_of (rows_of result.now) ≡ equal }
     ensures sound { IsTrue (are_sound 2 result.now) }
@@ -21,7 +20,7 @@ pub fn equal() -> &'static [Group]
     EQUAL
 }
 
-#[tactic(auto, unfolding(crate::specs::Operators::less))]
+#[tactic(auto, unfolding(crate::specs::Groups::less))]
 pub fn less() -> &'static [Group]
     ensures entries { map entry_of (rows_of result.now) ≡ less }
     ensures sound { IsTrue (are_sound 2 result.now) }
@@ -29,7 +28,7 @@ pub fn less() -> &'static [Group]
     LESS
 }
 
-#[tactic(auto, unfolding(crate::specs::Operators::greater))]
+#[tactic(auto, unfolding(crate::specs::Groups::greater))]
 pub fn greater() -> &'static [Group]
     ensures entries { map entry_of (rows_of result.now) ≡ greater }
     ensures sound { IsTrue (are_sound 2 result.now) }
@@ -37,7 +36,7 @@ pub fn greater() -> &'static [Group]
     GREATER
 }
 
-#[tactic(auto, unfolding(crate::specs::Operators::sums))]
+#[tactic(auto, unfolding(crate::specs::Groups::sums))]
 pub fn sums() -> &'static [Group]
     ensures entries { map entry_of (rows_of result.now) ≡ sums }
     ensures sound { IsTrue (are_sound 2 result.now) }
@@ -45,7 +44,7 @@ pub fn sums() -> &'static [Group]
     SUMS
 }
 
-#[tactic(auto, unfolding(crate::specs::Operators::products))]
+#[tactic(auto, unfolding(crate::specs::Groups::products))]
 pub fn products() -> &'static [Group]
     ensures entries { map entry_of (rows_of result.now) ≡ products }
     ensures sound { IsTrue (are_sound 2 result.now) }
@@ -53,7 +52,7 @@ pub fn products() -> &'static [Group]
     PRODUCTS
 }
 
-#[tactic(auto, unfolding(crate::specs::Operators::matches))]
+#[tactic(auto, unfolding(crate::specs::Groups::matches))]
 pub fn matches() -> &'static [Group]
     ensures entries { map entry_of (rows_of result.now) ≡ matches }
     ensures sound { IsTrue (are_sound 2 result.now) }
@@ -61,7 +60,7 @@ pub fn matches() -> &'static [Group]
     MATCHES
 }
 
-#[tactic(auto, unfolding(crate::specs::Operators::unary))]
+#[tactic(auto, unfolding(crate::specs::Groups::unary))]
 pub fn unary() -> &'static [Group]
     ensures entries { map entry_of (rows_of result.now) ≡ unary }
     ensures sound { IsTrue (are_sound 1 result.now) }

@@ -44,9 +44,10 @@ pub struct Row {
     pub name: &'static str,
     pub inputs: &'static [Pattern],
     pub result: Shape,
-    /// Whether the result is null where an input is.
+    /// Whether the result is null where an input is. Of an aggregate, which may pass over nulls: whether the result may be
+    /// null where there is no row, or an input of a row is null.
     pub strict: bool,
-    /// Whether the result may be null where no input is.
+    /// Whether the result may be null where no input is, and an aggregate has a row.
     pub may_null: bool,
     pub kind: Kind,
 }

@@ -1,6 +1,7 @@
 //! How the table is written: `rows!(KIND MARK "name": (inputs) -> result, ..)`. The marks are
 //! `strict` for what is null exactly where an input is null, `strict_may_null` for what may be null
-//! elsewhere too, `never_null`, and `may_null` for what may be null whatever the inputs are.
+//! elsewhere too, `never_null`, and `may_null` for what may be null whatever the inputs are. A strict
+//! aggregate may be null where it has no row or an input of a row is null, and nowhere else.
 
 macro_rules! is_strict {
     (strict) => {

@@ -1,6 +1,17 @@
-mod Bases
+pub mod Answered
+pub mod Apart
+pub mod Bases
 pub mod Changed
 pub mod ChangedAt
+pub mod ChangesKept
+pub mod ColumnsKept
 pub mod Held
+pub mod HeldKept
+pub mod IdsKept
 pub mod LabelsAgain
+pub mod LabelsKept
+pub mod NamesKept
+pub mod NamesStay
 pub mod Stripped
+pub mod TypesFall
+pub mod TypesStay

@@ -4,6 +4,9 @@ pub mod Catalogue
 pub mod Columns
 pub mod Contents
 pub mod Dropping
+pub mod Kept
 pub mod Keys
+pub mod Named
 pub mod Schemas
+pub mod TypeWords
 pub mod UserTypes

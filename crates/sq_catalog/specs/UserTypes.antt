@@ -1,10 +1,9 @@
 -- Enumerations and domains (PostgreSQL manual, CREATE TYPE, CREATE DOMAIN and ALTER TYPE).
-use Rattle.std.specs.Prelude.{ℕ, ◌+◌, ◌&&◌, ◌==◌, Bool, false, not, if◌then◌else◌, List, [], ◌∷◌, ◌++◌, Option, None, Some, find, position, Result, Ok, Err, length}
+use Rattle.std.specs.Prelude.{ℕ, zero, suc, ◌+◌, ◌&&◌, ◌==◌, Bool, false, if◌then◌else◌, List, [], ◌∷◌, ◌++◌, Option, None, Some, find, position, Result, Ok, Err, length}
 use Rattle.std.specs.List.{list_any, insert}
-use Rattle.std.specs.Option.{option_map}
+use Rattle.std.specs.Option.{option_map, option_map_or}
 use Rattle.std.specs.Str.{bytes_eq}
 use Rattle.sq_base.specs.declared.types.PgType.{PgType}
-use Rattle.sq_base.specs.declared.types.Scalar.{Scalar}
 use Rattle.sq_base.specs.declared.types.Scalar.TheVariants.{Enum, Domain}
 use Rattle.sq_catalog.specs.Answers.{and_then}
 use Rattle.sq_catalog.specs.Columns.{change_at, placed}
@@ -55,23 +54,26 @@ type_named c schema name = elim (enum_named c schema name) [
   | None ↦ option_map domain_type (domain_named c schema name)
 ]
 
--- whether a scalar type is this domain
-abbrev pub is_scalar_of : DomainType → Scalar → Bool
-is_scalar_of domain (Domain id) = domain.id == id
-is_scalar_of domain _ = false
+-- the domain of this id
+abbrev pub domain_of : Contents → ℕ → Option DomainType
+domain_of c id = find (λ (domain : DomainType). domain.id == id) c.domains
 
--- the base in the place of this domain, and every other type as it is
-abbrev pub without_domain : DomainType → PgType → PgType
-without_domain domain of = if not of.array && is_scalar_of domain of.scalar then domain.base else of
+-- what a domain is over, and every other type itself
+abbrev pub under : Contents → PgType → PgType
+under c of = elim of.scalar [
+  | Domain id ↦ if of.array then of else option_map_or (λ (domain : DomainType). domain.base) (domain_of c id) of
+  | other ↦ of
+]
 
--- a type without these domains, from the last to the first: a domain is made after its base
-abbrev pub base_among : List DomainType → PgType → PgType
-base_among [] of = of
-base_among (domain ∷ domains) of = without_domain domain (base_among domains of)
+-- what a type is over, so many steps down
+abbrev pub steps_under : ℕ → Contents → PgType → PgType
+steps_under zero c of = of
+steps_under (suc steps) c of = steps_under steps c (under c of)
 
--- the base type of a domain, where the catalogue has it, and every other type itself
+-- the base type of a domain, in turn where that is a domain too, and every other type itself: a domain
+-- is over fewer domains than there are
 abbrev pub base : Contents → PgType → PgType
-base c of = base_among c.domains of
+base c of = steps_under (length c.domains) c of
 
 -- the enumeration of this id
 abbrev pub enum_of : Contents → ℕ → Option EnumType
@@ -97,7 +99,7 @@ distinct_labels labels = elim (repeated_label labels) [
   | None ↦ Ok tt
 ]
 
--- a name that no type of this schema may have
+-- refused where a type of this schema has the name
 abbrev pub free_type : Contents → List ℕ → List ℕ → Result (Unit {0}) Cause
 free_type c schema name = elim (type_named c schema name) [
   | Some of ↦ Err (Exists name)

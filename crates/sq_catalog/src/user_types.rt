@@ -3,7 +3,7 @@
 ghost use Rattle.std.specs.Prelude.{◌≡◌, ◌<◌, IfSome, Ok, length, slice_get};
 ghost use Rattle.std.specs.Option.{option_copied};
 ghost use Rattle.sq_catalog.specs.Answers.{Answers, Gives};
-ghost use Rattle.sq_catalog.specs.UserTypes.{is_enum, is_domain, place_of_enum, enum_named, domain_named, type_named, enum_of, free_type, with_enum, enum_created, with_domain, domain_created, value_added, value_renamed, place_of_domain, known_type, enum_titled, domain_titled, enum_housed, domain_housed, domain_changed, type_changed, type_renamed, type_moved, is_scalar_of, without_domain, base};
+ghost use Rattle.sq_catalog.specs.UserTypes.{is_enum, is_domain, place_of_enum, enum_named, domain_named, type_named, enum_of, free_type, with_enum, enum_created, with_domain, domain_created, value_added, value_renamed, place_of_domain, known_type, enum_titled, domain_titled, enum_housed, domain_housed, domain_changed, type_changed, type_renamed, type_moved, domain_of, under, base};
 ghost use Rattle.sq_catalog.specs.Columns.{change_at};
 
 use crate::labels::{add_label, check_labels, rename_label};
@@ -54,27 +54,6 @@ fn set_domain_schema(domains: &mut Vec<DomainType>, at: usize, schema: Name)
     ensures { domains.new.items ≡ change_at (domain_housed schema) domains.old.items at }
 {
     domains[at].schema = schema;
-}
-
-// Whether a scalar type is this domain.
-fn is_scalar_of(domain: &DomainType, scalar: Scalar) -> bool
-    ensures { result ≡ is_scalar_of domain.now scalar }
-{
-    match scalar {
-        Scalar::Domain(id) => domain.id == id,
-        _ => false,
-    }
-}
-
-// The base in the place of this domain, and every other type as it is.
-fn without_domain(domain: &DomainType, of: PgType) -> PgType
-    ensures { result ≡ without_domain domain.now of }
-{
-    if !of.array && is_scalar_of(domain, of.scalar) {
-        domain.base
-    } else {
-        of
-    }
 }
 
 impl Catalogue {
@@ -136,16 +115,40 @@ impl Catalogue {
         self.domains.get(index)
     }
 
+    /// The domain of this id.
+    pub fn domain_of(&self, id: u32) -> Option<&DomainType>
+        ensures { option_copied result ≡ domain_of self.now id }
+    {
+        self.domains
+            .as_slice()
+            .iter()
+            .find(|domain| domain.id == id)
+    }
+
+    // What a domain is over, and every other type itself.
+    fn under(&self, of: PgType) -> PgType
+        ensures { result ≡ under self.now of }
+    {
+        match of.scalar {
+            Scalar::Domain(id) if !of.array => match self.domain_of(id) {
+                Some(domain) => domain.base,
+                None => of,
+            },
+            _ => of,
+        }
+    }
+
     /// The base type of a domain, in turn where that is a domain too, and every other type itself
     /// (PostgreSQL manual, section 8.18).
+    #[tactic(auto, using(crate::proofs::Bases::one_more, crate::proofs::Bases::all_steps))]
     pub fn base(&self, of: PgType) -> PgType
         ensures { result ≡ base self.now of }
     {
         let mut found = of;
-        let mut at = self.domains.len();
-        while at > 0 {
-            at -= 1;
-            found = without_domain(&self.domains[at], found);
+        let mut left = self.domains.len();
+        while left > 0 {
+            left -= 1;
+            found = self.under(found);
         }
         found
     }

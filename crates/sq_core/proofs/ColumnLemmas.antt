@@ -1,5 +1,5 @@
 -- The SELECT of columns of one table is typed, and the texts of the core are those of the writers.
-use Rattle.std.proofs.Common.{◌≡◌, ℕ, Bool, true, false, not, List, [], ◌∷◌, ◌++◌, map, Option, Some, None, slice_get, refl, sym, ap, subst, ◌∙◌}
+use Rattle.std.proofs.Common.{◌≡◌, ℕ, zero, suc, length, Bool, true, false, not, List, [], ◌∷◌, ◌++◌, map, Option, Some, None, slice_get, refl, sym, ap, subst, ◌∙◌}
 use Rattle.std.proofs.lemmas.Option.{slice_get-map}
 use Rattle.std.specs.List.{AllZip, AllByRecursion}
 use Rattle.std.specs.Prelude.{IsSome, IsSomeAnd, codes, option_map}
@@ -7,9 +7,8 @@ use Rattle.sq_base.specs.declared.types.PgType.{PgType}
 use Rattle.sq_base.specs.declared.types.Scalar.{Scalar}
 use Rattle.sq_base.specs.declared.types.Scalar.TheVariants.{SmallInt, Integer, BigInt, Real, DoublePrecision, Numeric, Boolean, Text, Varchar, Character, Bytea, Date, Time, Timestamp, TimestampTz, Interval, Uuid, Json, Jsonb, Opaque, Enum, Domain, Unknown}
 use Rattle.sq_catalog.specs.Contents.{Contents}
-use Rattle.sq_catalog.specs.UserTypes.{base, base_among, without_domain, is_scalar_of}
+use Rattle.sq_catalog.specs.UserTypes.{base, steps_under, under}
 use Rattle.sq_catalog.specs.declared.table.Column.{Column as TableColumn}
-use Rattle.sq_catalog.specs.declared.table.DomainType.{DomainType}
 use Rattle.sq_catalog.specs.declared.table.Table.{Table as CatalogTable}
 use Rattle.sq_core.specs.declared.node.Node.{Node, Constant, Null as NullNode, Param as ParamNode, Apply', Subquery', Aggregate'}
 use Rattle.sq_core.specs.declared.node.Node.TheVariants.{Column}
@@ -32,22 +31,13 @@ use Rattle.sq_shown.specs.declared.signature.Output.{Output}
 
 -- A type that is printed without the catalogue stands behind no domain.
 
-no_domain : (domain : DomainType) (scalar : Scalar) → is_printed scalar ≡ true → is_scalar_of domain scalar ≡ false
-no_domain domain (Enum id) printed = cc
-no_domain domain (Domain id) printed = cc
-no_domain domain Unknown printed = cc
-no_domain domain _ printed = refl
+stays : (contents : Contents) (scalar : Scalar) (array : Bool) → is_printed scalar ≡ true → under contents (record { scalar = scalar; array = array }) ≡ record { scalar = scalar; array = array }
+stays contents (Domain id) array printed = cc
+stays contents _ array printed = refl
 
-stays : (domain : DomainType) (of : PgType) → is_printed of.scalar ≡ true → without_domain domain of ≡ of
-stays domain of printed = by_array of.array
-  where
-    by_array : (array : Bool) → without_domain domain (record { scalar = of.scalar; array = array }) ≡ record { scalar = of.scalar; array = array }
-    by_array true = refl
-    by_array false = rw (no_domain domain of.scalar printed) refl
-
-base-printed : (domains : List DomainType) (of : PgType) → is_printed of.scalar ≡ true → base_among domains of ≡ of
-base-printed [] of printed = refl
-base-printed (domain ∷ later) of printed = ap (without_domain domain) (base-printed later of printed) ∙ stays domain of printed
+base-printed : (contents : Contents) (steps : ℕ) (of : PgType) → is_printed of.scalar ≡ true → steps_under steps contents of ≡ of
+base-printed contents zero of printed = refl
+base-printed contents (suc steps) of printed = ap (steps_under steps contents) (stays contents of.scalar of.array printed) ∙ base-printed contents steps of printed
 
 known_scalar : (scalar : Scalar) (array : Bool) → is_printed scalar ≡ true → is_unknown (record { scalar = scalar_tag scalar; array = array }) ≡ false
 known_scalar (Enum id) array printed = cc
@@ -57,7 +47,7 @@ known_scalar _ array printed = refl
 
 known-printed : (contents : Contents) (of : PgType) → is_printed of.scalar ≡ true → is_unknown (tag contents of) ≡ false
 known-printed contents of printed =
-    ap (λ behind. is_unknown (record { scalar = scalar_tag behind.scalar; array = behind.array })) (base-printed contents.domains of printed)
+    ap (λ behind. is_unknown (record { scalar = scalar_tag behind.scalar; array = behind.array })) (base-printed contents (length contents.domains) of printed)
     ∙ known_scalar of.scalar of.array printed
 
 -- Texts.
@@ -84,7 +74,7 @@ own_written contents scalar false false printed = never_written contents scalar 
 -- the text of a type that needs no catalogue is that which the writer of Go writes
 pub text-written : (contents : Contents) (of : PgType) (nullable : Bool) → IsPrinted of → printed_text Go contents of nullable ≡ printed_form of nullable
 text-written contents of nullable printed =
-    ap (λ behind. text Go contents (record { shape = shape Go behind nullable; nullable = nullable })) (base-printed contents.domains of printed)
+    ap (λ behind. text Go contents (record { shape = shape Go behind nullable; nullable = nullable })) (base-printed contents (length contents.domains) of printed)
     ∙ own_written contents of.scalar of.array nullable printed
 
 -- The SELECT of columns.

@@ -1,12 +1,11 @@
 -- The first laws.
-use Rattle.std.proofs.Common.{◌≡◌, ℕ, Bool, true, false, ◌&&◌, if◌then◌else◌, List, [], ◌∷◌, map, refl, ap, sym, subst, ◌∙◌}
+use Rattle.std.proofs.Common.{◌≡◌, ℕ, zero, suc, length, Bool, true, false, ◌&&◌, if◌then◌else◌, List, [], ◌∷◌, map, refl, ap, sym, subst, ◌∙◌}
 use Rattle.std.specs.List.{AllZip}
 use Rattle.sq_catalog.specs.Contents.{Contents}
-use Rattle.sq_catalog.specs.declared.table.DomainType.{DomainType}
 use Rattle.sq_catalog.specs.declared.table.Table.{Table}
 use Rattle.sq_builtin.specs.Functions.{none, one, two, three, four, five, six, seven, eight, ten, twelve, fourteen, sixteen}
-use Rattle.sq_builtin.specs.Operators.{equal, less, greater, sums, products, matches, unary}
-use Rattle.sq_builtin.specs.Rows.{parts}
+use Rattle.sq_builtin.specs.Operators.{operators}
+use Rattle.sq_builtin.specs.Rows.{table}
 use Rattle.sq_core.specs.declared.node.Node.{Node}
 use Rattle.sq_core.specs.declared.routine.Operation.TheVariants.{Call}
 use Rattle.sq_shown.specs.declared.signature.Param.{Param}
@@ -17,7 +16,7 @@ use Rattle.sq_core.specs.Run.{node_run}
 use Rattle.sq_core.specs.Items.{Item, Run}
 use Rattle.sq_core.specs.Laws.{AggregatesAreStrict, PlusIsARow, integer, text_tag, plus, TextAdditionIsStuck}
 use Rattle.sq_core.specs.Routines.{called, computed, have_tags, is_routine}
-use Rattle.sq_catalog.specs.UserTypes.{base_among, without_domain}
+use Rattle.sq_catalog.specs.UserTypes.{steps_under}
 use Rattle.sq_core.specs.Values.{Value, Database, Tagged, scalar_tag, tag, integer_tag, DatabaseFits, RowsFit, empty_tables, table_kinds}
 use Rattle.sq_core.proofs.StoredLemmas.{runs-hidden}
 
@@ -26,14 +25,14 @@ empty_fit contents = each contents.tables
   where
     each : (tables : List Table) → AllZip (λ table. RowsFit (table_kinds contents table)) tables (map (λ (table : Table). []) tables)
     each [] = tt
-    each (table ∷ tables) = (tt, each tables)
+    each (one ∷ tables) = (tt, each tables)
 
-base-integer : (domains : List DomainType) → base_among domains integer ≡ integer
-base-integer [] = refl
-base-integer (domain ∷ later) = ap (without_domain domain) (base-integer later)
+base-integer : (contents : Contents) (steps : ℕ) → steps_under steps contents integer ≡ integer
+base-integer contents zero = refl
+base-integer contents (suc steps) = base-integer contents steps
 
 pub tag-integer : (contents : Contents) → tag contents integer ≡ integer_tag
-tag-integer contents = ap (λ of. record { scalar = scalar_tag of.scalar; array = of.array }) (base-integer contents.domains)
+tag-integer contents = ap (λ of. record { scalar = scalar_tag of.scalar; array = of.array }) (base-integer contents (length contents.domains))
 
 stuck_where : (a b : Bool) (run : Run Value) (oracle : List Item) → b ≡ false → (if a && b then run else stuck) oracle ≡ Stuck
 stuck_where true b run oracle fails = rw fails refl
@@ -53,9 +52,9 @@ text_addition contents params database arguments left right setting number value
     ∙ called_text contents number value last
 
 pub plus_row : PlusIsARow
-unfolding is_routine parts equal less greater sums products matches unary none one two three four five six seven eight ten twelve fourteen sixteen
+unfolding is_routine table operators none one two three four five six seven eight ten twelve fourteen sixteen
 plus_row = record { row = refl; no_row = refl }
 
 pub aggregates_strict : AggregatesAreStrict
-unfolding parts equal less greater sums products matches unary none one two three four five six seven eight ten twelve fourteen sixteen
+unfolding table operators none one two three four five six seven eight ten twelve fourteen sixteen
 aggregates_strict = refl

@@ -6,8 +6,8 @@ use Rattle.std.specs.List.{list_all, list_any}
 use Rattle.std.specs.Prelude.{bytes_eq}
 use Rattle.sq_builtin.specs.Entries.{Entry}
 use Rattle.sq_builtin.specs.Functions.{none, one, two, three, four, five, six, seven, eight, ten, twelve, fourteen, sixteen}
-use Rattle.sq_builtin.specs.Operators.{unary, equal, less, greater, sums, products, matches}
-use Rattle.sq_builtin.specs.Rows.{has_name_and_count, parts, table}
+use Rattle.sq_builtin.specs.Operators.{operators}
+use Rattle.sq_builtin.specs.Rows.{has_name_and_count, table}
 use Rattle.sq_core.specs.Possible.{EveryRowIsPossible, element, picked, taken}
 use Rattle.sq_core.specs.Routines.{is_aggregate, is_entry, is_routine}
 use Rattle.sq_core.proofs.TypeLemmas.{and_left, and_right, both_true, or_left, or_right}
@@ -17,7 +17,7 @@ abbrev is_possible : Entry → Bool
 is_possible entry = is_entry (is_aggregate entry.kind) (picked entry) entry
 
 all_possible : list_all is_possible table ≡ true
-unfolding parts equal less greater sums products matches unary none one two three four five six seven eight ten twelve fourteen sixteen
+unfolding table operators none one two three four five six seven eight ten twelve fourteen sixteen
 all_possible = refl
 
 all_at : {A : Type 0} (test : A → Bool) (xs : List A) (place : ℕ) (x : A) → list_all test xs ≡ true → slice_get xs place ≡ Some x → test x ≡ true

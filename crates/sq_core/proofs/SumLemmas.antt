@@ -3,8 +3,8 @@ use Rattle.std.proofs.Common.{◌≡◌, ℕ, true, false, ◌&&◌, if◌then�
 use Rattle.sq_catalog.specs.Contents.{Contents}
 use Rattle.sq_catalog.specs.declared.table.Table.{Table as CatalogTable}
 use Rattle.sq_builtin.specs.Functions.{none, one, two, three, four, five, six, seven, eight, ten, twelve, fourteen, sixteen}
-use Rattle.sq_builtin.specs.Operators.{equal, less, greater, sums, products, matches, unary}
-use Rattle.sq_builtin.specs.Rows.{parts}
+use Rattle.sq_builtin.specs.Operators.{operators}
+use Rattle.sq_builtin.specs.Rows.{table}
 use Rattle.sq_core.specs.declared.node.Node.{Node}
 use Rattle.sq_core.specs.declared.node.Node.TheVariants.{Aggregate, Column}
 use Rattle.sq_core.specs.declared.node.Query.TheVariants.{Select as SelectQuery}
@@ -27,7 +27,7 @@ use Rattle.sq_core.specs.Values.{Value, Null, Row, Database}
 use Rattle.sq_core.proofs.StoredLemmas.{query_run-Select, runs-hidden}
 
 sum_row : is_routine true sum ≡ true
-unfolding is_routine parts equal less greater sums products matches unary none one two three four five six seven eight ten twelve fourteen sixteen
+unfolding is_routine table operators none one two three four five six seven eight ten twelve fourteen sixteen
 sum_row = refl
 
 module _ (contents : Contents) (params : List Param) (database : Database) (arguments : List Value) where

@@ -1,1 +1,2 @@
 pub mod RawSteps
+pub mod Seen

@@ -1,7 +1,6 @@
 //! Whether two identifiers of one name space are equal.
 
-ghost use Rattle.std.specs.Prelude.{◌≡◌, ◌++◌, ◌∷◌, [], IfOk, OnOk, map, flat_map, bytes_eq};
-ghost use Rattle.std.specs.List.{list_any};
+ghost use Rattle.std.specs.Prelude.{◌≡◌, ◌++◌, ◌∷◌, [], IfOk, OnOk, map, flat_map};
 ghost use Rattle.sq_shown.specs.Layout.{model_name, queries_of, query_path};
 ghost use Rattle.sq_shown.specs.Names.{clash, file_names, has_equal, methods, query_row, query_top, top_level};
 
@@ -10,29 +9,19 @@ use crate::row::{has_own_struct, model_of, row_name};
 use sq_base::List;
 use sq_shown::{ModelDecl, QueryFile, QuerySig, constant_name, model_identifier, shown};
 use std::alloc::{AllocError, Global};
+use std::collections::BTreeSet;
 
-// Whether a name is one of these.
-fn is_among(name: &[u8], names: &[List<u8>]) -> bool
-    ensures { result ≡ list_any (bytes_eq name.now) names.now }
+// Whether two names are equal.
+fn has_equal(alloc: Global, names: &[List<u8>]) -> Result<bool, AllocError>
+    ensures { IfOk result (λ found. found ≡ has_equal names.now) }
 {
-    for other in names {
-        if name == other.as_slice() {
-            return true;
+    let mut seen = BTreeSet::new(alloc);
+    for name in names {
+        if !seen.insert(name.as_slice())? {
+            return Ok(true);
         }
     }
-    false
-}
-
-// Whether two names are equal. It compares each name with each later one.
-fn has_equal(names: &[List<u8>]) -> bool
-    ensures { result ≡ has_equal names.now }
-{
-    for (place, name) in names.iter().enumerate() {
-        if is_among(name.as_slice(), &names[place + 1..]) {
-            return true;
-        }
-    }
-    false
+    Ok(false)
 }
 
 // Appends a name.
@@ -209,5 +198,9 @@ pub fn go_clash(
     let top = top_level(alloc, models, files)?;
     let methods = methods(alloc, files)?;
     let paths = file_names(alloc, files)?;
-    Ok(has_equal(top.as_slice()) || has_equal(methods.as_slice()) || has_equal(paths.as_slice()))
+    Ok(
+        has_equal(alloc, top.as_slice())?
+            || has_equal(alloc, methods.as_slice())?
+            || has_equal(alloc, paths.as_slice())?,
+    )
 }

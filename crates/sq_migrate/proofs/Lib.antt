@@ -1,15 +1,5 @@
-pub mod Answered
-pub mod Apart
-pub mod ChangesKept
-pub mod ColumnsKept
 pub mod Gathered
-pub mod HeldKept
-pub mod IdsKept
 pub mod NamesAsked
-pub mod NamesKept
 pub mod NamesReplayed
-pub mod NamesStay
 pub mod ReplayKept
 pub mod TypesAsked
-pub mod TypesFall
-pub mod TypesStay

@@ -41,11 +41,11 @@ use Rattle.sq_migrate.specs.Types.{known_schema, place_of, type_of}
 use Rattle.sq_migrate.specs.Columns.{text, table_key, column_keys, keys, table_keys, column_of_type, column_of, columns_of}
 use Rattle.sq_migrate.specs.Labels.{label}
 use Rattle.sq_migrate.specs.Asked.{schema_of, last_of, within_schema, into_schema, is_cascade, target, table_asked, enum_asked, domain_asked, drop_of, drop_asked, acting, column_asked, type_asked, some, key_asked, action_asked, rename_asked, move_asked, beside_of, value_asked, value_name_asked, type_name_asked, type_schema_asked, type_change_asked}
-use Rattle.sq_migrate.specs.Named.{IsName, HasName, HasNames, NamesColumn, NamesAdded, NamesInTable, NamesType}
+use Rattle.sq_catalog.specs.Named.{BringsNames, IsName, HasName, HasNames}
+use Rattle.sq_migrate.specs.Naming.{NamesColumn, NamesAdded, NamesInTable, NamesType}
 use Rattle.sq_migrate.specs.Replay.{table_change_asked}
-use Rattle.sq_migrate.proofs.Answered.{by_test}
-use Rattle.sq_migrate.proofs.NamesKept.{BringsNames}
-use Rattle.sq_migrate.proofs.TypesFall.{by_first}
+use Rattle.sq_catalog.proofs.Answered.{by_test}
+use Rattle.sq_catalog.proofs.TypesFall.{by_first}
 
 -- what comes next
 by_next : {A B : Type 0} (P : B → Type 0) (r : Result A Refusal) (next : A → Result B Refusal) → ((x : A) → r ≡ Ok x → IfOk (next x) P) → IfOk (and_then r next) P

@@ -18,9 +18,10 @@ use Rattle.sq_catalog.specs.Catalogue.{step}
 use Rattle.sq_catalog.specs.declared.change.Change.{Change}
 use Rattle.sq_catalog.specs.declared.change.Cause.{Cause}
 use Rattle.sq_migrate.specs.Asked.{schema_asked, table_asked, enum_asked, domain_asked, schema_drop_asked, drop_asked, action_asked, type_change_asked}
-use Rattle.sq_migrate.specs.Named.{HasNames, NamesAdded, NamesInTable, GivesNames}
+use Rattle.sq_catalog.specs.Named.{BringsNames, HasNames}
+use Rattle.sq_migrate.specs.Naming.{NamesAdded, NamesInTable, GivesNames}
 use Rattle.sq_migrate.specs.Replay.{Replayed, start, stepped, done, done_if_any, schemas_dropped, names_dropped, acted, table_change_asked, table_changed, after, after_all, replayed}
-use Rattle.sq_migrate.proofs.NamesKept.{BringsNames, step_keeps_names}
+use Rattle.sq_catalog.proofs.NamesKept.{step_keeps_names}
 use Rattle.sq_migrate.proofs.NamesAsked.{BringsIfAny, table_brings, enum_brings, domain_brings, drop_brings, action_brings, table_change_brings, type_change_brings}
 
 -- what the statements so far have made has names

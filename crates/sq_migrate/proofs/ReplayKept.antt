@@ -17,10 +17,9 @@ use Rattle.sq_catalog.specs.Catalogue.{step}
 use Rattle.sq_catalog.specs.declared.change.Change.{Change}
 use Rattle.sq_catalog.specs.declared.change.Cause.{Cause}
 use Rattle.sq_migrate.specs.Asked.{schema_asked, table_asked, enum_asked, domain_asked, schema_drop_asked, drop_asked, action_asked, type_change_asked}
-use Rattle.sq_migrate.specs.Kept.{IsCatalogue}
+use Rattle.sq_catalog.specs.Kept.{BringsHeld, IsCatalogue}
 use Rattle.sq_migrate.specs.Replay.{Replayed, start, stepped, done, done_if_any, schemas_dropped, names_dropped, acted, table_change_asked, table_changed, after, after_all, replayed}
-use Rattle.sq_migrate.proofs.ChangesKept.{step_keeps}
-use Rattle.sq_migrate.proofs.HeldKept.{BringsHeld}
+use Rattle.sq_catalog.proofs.ChangesKept.{step_keeps}
 use Rattle.sq_migrate.proofs.TypesAsked.{BringsIfAny, schema_brings, table_brings, enum_brings, domain_brings, schema_drop_brings, drop_brings, action_brings, table_change_brings, type_change_brings}
 
 -- what the statements so far have made is a catalogue

@@ -1,5 +1,5 @@
 -- What statements ask for is of types that the catalogue holds.
-use Rattle.std.proofs.Common.{◌≡◌, ◌==◌, ◌&&◌, ℕ, Bool, true, false, cond, map, List, [], ◌∷◌, find, Option, Some, None, Result, Ok, Err, IfOk, option_map, refl, subst, arith}
+use Rattle.std.proofs.Common.{◌≡◌, ◌<◌, ◌&&◌, ℕ, Bool, true, false, cond, map, List, [], ◌∷◌, Option, Some, None, IfSome, Result, Ok, Err, IfOk, refl, subst, arith, nat_lt}
 use Rattle.std.specs.List.{AllByRecursion}
 use Rattle.std.specs.Option.{option_or}
 use Rattle.std.proofs.lemmas.Option.{same_Some}
@@ -8,7 +8,7 @@ use Rattle.sq_base.specs.declared.place.Place.{Place}
 use Rattle.sq_base.specs.declared.refusal.Refusal.{Refusal}
 use Rattle.sq_base.specs.declared.types.PgType.{PgType}
 use Rattle.sq_base.specs.declared.types.Scalar.{Scalar}
-use Rattle.sq_base.specs.declared.types.Scalar.TheVariants.{DoublePrecision, Varchar, Timestamp, Enum, Domain}
+use Rattle.sq_base.specs.declared.types.Scalar.TheVariants.{DoublePrecision, Varchar, Timestamp, Opaque, Enum, Domain, Unknown}
 use Rattle.sq_syntax.specs.declared.name.Identifier.{Identifier}
 use Rattle.sq_syntax.specs.declared.name.QualifiedName.{QualifiedName}
 use Rattle.sq_syntax.specs.declared.name.TimeZone.{TimeZone}
@@ -36,9 +36,7 @@ use Rattle.sq_syntax.specs.declared.ddl.TableChange.TheVariants as table_change
 use Rattle.sq_syntax.specs.declared.ddl.TypeChange.{TypeChange}
 use Rattle.sq_syntax.specs.declared.ddl.TypeChange.TheVariants as type_change
 use Rattle.sq_catalog.specs.Contents.{Contents}
-use Rattle.sq_catalog.specs.Dropping.{has_id, id_of}
-use Rattle.sq_catalog.specs.UserTypes.{is_enum, enum_type, enum_named, domain_type, domain_named, type_named}
-use Rattle.sq_catalog.specs.UserTypes as user_types
+use Rattle.sq_catalog.specs.UserTypes.{type_named}
 use Rattle.sq_catalog.specs.declared.change.Action.{Action}
 use Rattle.sq_catalog.specs.declared.change.Action.TheVariants as action
 use Rattle.sq_catalog.specs.declared.change.Change.{Change}
@@ -46,19 +44,16 @@ use Rattle.sq_catalog.specs.declared.change.Change.TheVariants as change
 use Rattle.sq_catalog.specs.declared.change.NewKey.{NewKey}
 use Rattle.sq_catalog.specs.declared.change.Target.{Target}
 use Rattle.sq_catalog.specs.declared.table.Column.{Column}
-use Rattle.sq_catalog.specs.declared.table.DomainType.{DomainType}
-use Rattle.sq_catalog.specs.declared.table.EnumType.{EnumType}
 use Rattle.sq_migrate.specs.declared.types.Typed.{Typed}
 use Rattle.sq_migrate.specs.Refused.{and_then}
 use Rattle.sq_migrate.specs.Types.{number_named, time_named, text_named, opaque_named, scalar_named, serial_named, scalar, is_char, unknown, serial_type, found_type, known_schema, type_in, serial_or_in, built_in_or_in, bare_type, holds_built_in, type_of_schema, named_type, place_of, zoned, is_domain, has_squares, completed, arrayed, type_of}
 use Rattle.sq_migrate.specs.Columns.{text, table_key, column_keys, keys, table_keys, column_of_type, column_of, columns_of}
 use Rattle.sq_migrate.specs.Labels.{label}
 use Rattle.sq_migrate.specs.Asked.{schema_of, last_of, within_schema, into_schema, is_cascade, target, schema_asked, table_asked, enum_asked, domain_asked, schema_drop_asked, drop_of, drop_asked, acting, column_asked, type_asked, some, key_asked, action_asked, rename_asked, move_asked, beside_of, value_asked, value_name_asked, type_name_asked, type_schema_asked, type_change_asked}
-use Rattle.sq_migrate.specs.Kept.{IsHeld}
+use Rattle.sq_catalog.specs.Kept.{BringsHeld, IsHeld, opaque_types}
 use Rattle.sq_migrate.specs.Replay.{table_change_asked}
-use Rattle.sq_migrate.proofs.Answered.{by_test, by_finding}
-use Rattle.sq_migrate.proofs.HeldKept.{BringsHeld}
-use Rattle.sq_migrate.proofs.TypesFall.{by_first}
+use Rattle.sq_catalog.proofs.Answered.{by_test, by_finding}
+use Rattle.sq_catalog.proofs.Bases.{named_held}
 
 -- what comes next
 by_next : {A B : Type 0} (P : B → Type 0) (r : Result A Refusal) (next : A → Result B Refusal) → ((x : A) → r ≡ Ok x → IfOk (next x) P) → IfOk (and_then r next) P
@@ -67,16 +62,32 @@ by_next P (Err refusal) next after = tt
 
 -- BUILT-IN TYPES
 
--- a type that is found, if any, is no enumeration and no domain
+-- whether a type is known, and no enumeration and no domain
+abbrev is_plain : Scalar → Bool
+is_plain (Enum id) = false
+is_plain (Domain id) = false
+is_plain (Opaque place) = nat_lt place opaque_types
+is_plain Unknown = false
+is_plain other = true
+
+-- every catalogue holds such a type
+plain_held : (c : Contents) (of : Scalar) (array : Bool) → is_plain of ≡ true → IsHeld c (record { scalar = of; array = array })
+plain_held c (Enum id) array plain = absurd (cc)
+plain_held c (Domain id) array plain = absurd (cc)
+plain_held c (Opaque place) array plain = grind (arith, plain)
+plain_held c Unknown array plain = absurd (cc)
+plain_held c other array plain = tt
+
+-- a type that is found, if any, is such a type
 record IsPlain (found : Option Scalar) : Type 0 where
-  plain : (of : Scalar) → found ≡ Some of → id_of of ≡ None
+  plain : (of : Scalar) → found ≡ Some of → is_plain of ≡ true
 
 unfound : IsPlain None
 unfound = record { plain = λ of is. absurd (cc) }
 
-chosen : (b : Bool) (of : Scalar) (rest : Option Scalar) → id_of of ≡ None → IsPlain rest → IsPlain (cond b (Some of) rest)
-chosen true of rest none others = record { plain = λ other is. subst (λ (x : Scalar). id_of x ≡ None) (same_Some of other is) none }
-chosen false of rest none others = others
+chosen : (b : Bool) (of : Scalar) (rest : Option Scalar) → is_plain of ≡ true → IsPlain rest → IsPlain (cond b (Some of) rest)
+chosen true of rest plain others = record { plain = λ other is. subst (λ (x : Scalar). is_plain x ≡ true) (same_Some of other is) plain }
+chosen false of rest plain others = others
 
 first_of_both : (first second : Option Scalar) → IsPlain first → IsPlain second → IsPlain (option_or first second)
 first_of_both None second plain others = others
@@ -108,33 +119,16 @@ serial_plain name = search (chosen, unfound)
 
 -- TYPES BY THEIR NAMES
 
-found_has : {A : Type 0} (g : A → ℕ) (p : A → Bool) (xs : List A) (x : A) → find p xs ≡ Some x → has_id (map g xs) (g x) ≡ true
-found_has g p [] x found = absurd (cc)
-found_has {A} g p (y ∷ ys) x found =
-    by_first (λ (b : Bool). b ≡ true) (g y == g x) (has_id (map g ys) (g x)) (λ is. refl)
-    (λ other. by_test (λ (o : Option A). o ≡ Some x → has_id (map g ys) (g x) ≡ true) (p y) (Some y) (find p ys)
-    (λ passes e. absurd (differs (same_Some y x e) other)) (λ fails e. found_has g p ys x e) found) where
-      differs : y ≡ x → (g y == g x) ≡ false → ⊥
-      differs same other = let is : (g x == g x) ≡ false = subst (λ z. (g z == g x) ≡ false) same other in grind (arith, is)
-
 module _ (c : Contents) where
   -- a type that is answered is held
   abbrev Holds : Result Typed Refusal → Type 0
   Holds result = IfOk result (λ of. IsHeld c of.of)
 
-  plain_held : (of : Scalar) (array : Bool) → id_of of ≡ None → IsHeld c (record { scalar = of; array = array })
-  plain_held (Enum id) array plain = absurd (cc)
-  plain_held (Domain id) array plain = absurd (cc)
-  plain_held other array plain = tt
-
   found_holds : (place : Place) (x : Identifier) (schema name : List ℕ) → Holds (found_type place x (type_named c schema name))
-  found_holds place x schema name =
-      by_finding (λ (o : Option PgType). Holds (found_type place x o)) (enum_named c schema name) (option_map domain_type (domain_named c schema name)) (λ of. Some (enum_type of))
-      (λ none. domain_held (domain_named c schema name) refl)
-      (λ of there. found_has (λ (other : EnumType). other.id) (λ (other : EnumType). is_enum other schema name) c.enums of there) where
-        domain_held : (o : Option DomainType) → domain_named c schema name ≡ o → Holds (found_type place x (option_map domain_type o))
-        domain_held None is = tt
-        domain_held (Some of) is = (found_has (λ (other : DomainType). other.id) (λ (other : DomainType). user_types.is_domain other schema name) c.domains of is, refl)
+  found_holds place x schema name = of_found (type_named c schema name) (named_held c schema name) where
+    of_found : (o : Option PgType) → IfSome o (IsHeld c) → Holds (found_type place x o)
+    of_found None held = tt
+    of_found (Some of) held = held
 
   in_holds : (place : Place) (schema : List ℕ) (x : Identifier) → Holds (type_in c place schema x)
   in_holds place schema x = by_next (λ (of : Typed). IsHeld c of.of) (known_schema c place schema) (λ done. found_type place x (type_named c schema x.name)) (λ done is. found_holds place x schema x.name)
@@ -142,22 +136,22 @@ module _ (c : Contents) where
   serial_holds : (in_column : Bool) (place : Place) (schema : List ℕ) (x : Identifier) → Holds (serial_or_in c in_column place schema x)
   serial_holds in_column place schema x =
       by_finding Holds (serial_named x.name) (type_in c place schema x) (λ of. serial_type in_column place x of) (λ none. in_holds place schema x)
-      (λ of is. by_test Holds in_column (Ok (scalar true of)) (unknown place x) (λ allowed. plain_held of false ((serial_plain x.name).plain of is)) (λ refused. tt))
+      (λ of is. by_test Holds in_column (Ok (scalar true of)) (unknown place x) (λ allowed. plain_held c of false ((serial_plain x.name).plain of is)) (λ refused. tt))
 
   built_in_holds : (in_column : Bool) (place : Place) (schema : List ℕ) (x : Identifier) → Holds (built_in_or_in c in_column place schema x)
   built_in_holds in_column place schema x =
       by_test Holds (is_char x) (unknown place x) (elim (scalar_named x.name) [ Some of ↦ Ok (scalar false of) | None ↦ serial_or_in c in_column place schema x ]) (λ refused. tt)
       (λ other. by_finding Holds (scalar_named x.name) (serial_or_in c in_column place schema x) (λ of. Ok (scalar false of)) (λ none. serial_holds in_column place schema x)
-      (λ of is. plain_held of false ((scalar_plain x.name).plain of is)))
+      (λ of is. plain_held c of false ((scalar_plain x.name).plain of is)))
 
-  of_schema_holds : (in_column : Bool) (schema x : Identifier) → Holds (type_of_schema c in_column schema x)
-  of_schema_holds in_column schema x =
-      by_test Holds (holds_built_in schema.name x.name) (built_in_or_in c in_column schema.place schema.name x) (type_in c schema.place schema.name x)
-      (λ built_in. built_in_holds in_column schema.place schema.name x) (λ own. in_holds schema.place schema.name x)
+  of_schema_holds : (schema x : Identifier) → Holds (type_of_schema c schema x)
+  of_schema_holds schema x =
+      by_test Holds (holds_built_in schema.name x.name) (built_in_or_in c false schema.place schema.name x) (type_in c schema.place schema.name x)
+      (λ built_in. built_in_holds false schema.place schema.name x) (λ own. in_holds schema.place schema.name x)
 
   named_holds : (in_column : Bool) (x : QualifiedName) → Holds (named_type c in_column x)
   named_holds in_column x =
-      by_finding Holds x.schema (bare_type c in_column x.name) (λ schema. type_of_schema c in_column schema x.name) (λ none. built_in_holds in_column x.name.place _ x.name) (λ schema is. of_schema_holds in_column schema x.name)
+      by_finding Holds x.schema (bare_type c in_column x.name) (λ schema. type_of_schema c schema x.name) (λ none. built_in_holds in_column x.name.place _ x.name) (λ schema is. of_schema_holds schema x.name)
 
   zoned_held : (zone : TimeZone) (of : Scalar) (array : Bool) → IsHeld c (record { scalar = of; array = array }) → IsHeld c (record { scalar = zoned zone of; array = array })
   zoned_held zone.With Timestamp array held = tt
@@ -167,7 +161,7 @@ module _ (c : Contents) where
   squared_held squares (Enum id) array allowed held = held
   squared_held true (Domain id) array allowed held = (held.0, allowed)
   squared_held false (Domain id) array allowed held = (held.0, refl)
-  squared_held squares other array allowed held = tt
+  squared_held squares other array allowed held = held
 
   completed_held : (x : TypeName) (of : Typed) → (has_squares x && is_domain of.of.scalar) ≡ false → IsHeld c of.of → IsHeld c (completed x of).of
   completed_held x of allowed held = zoned_held x.zone of.of.scalar (has_squares x) (squared_held (has_squares x) of.of.scalar of.of.array allowed held)

@@ -146,17 +146,17 @@ is_extension name = is_one name (codes "citext" ∷ codes "ltree" ∷ codes "hst
 abbrev pub holds_built_in : List ℕ → List ℕ → Bool
 holds_built_in schema name = bytes_eq schema (codes "pg_catalog") || (bytes_eq schema public && is_extension name)
 
--- a name with a schema
-abbrev pub type_of_schema : Contents → Bool → Identifier → Identifier → Result Typed Refusal
-type_of_schema c in_column schema x =
-    if holds_built_in schema.name x.name then built_in_or_in c in_column schema.place schema.name x
+-- a name with a schema, which no serial spelling may have
+abbrev pub type_of_schema : Contents → Identifier → Identifier → Result Typed Refusal
+type_of_schema c schema x =
+    if holds_built_in schema.name x.name then built_in_or_in c false schema.place schema.name x
     else type_in c schema.place schema.name x
 
 -- the type of a name
 abbrev pub named_type : Contents → Bool → QualifiedName → Result Typed Refusal
 named_type c in_column x = elim x.schema [
   | None ↦ bare_type c in_column x.name
-  | Some schema ↦ type_of_schema c in_column schema x.name
+  | Some schema ↦ type_of_schema c schema x.name
 ]
 
 -- the place of a name: that of its first part

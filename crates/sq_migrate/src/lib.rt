@@ -10,6 +10,6 @@ mod replaying;
 mod tables;
 mod types;
 
-pub use laws::{empty_has_names, empty_is_catalogue, replay_keeps, replay_keeps_names};
+pub use laws::{replay_keeps, replay_keeps_names};
 pub use replaying::replay;
 pub use types::{Typed, type_of};

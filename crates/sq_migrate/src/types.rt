@@ -146,15 +146,14 @@ fn holds_built_in(schema: &str, name: &str) -> bool
 fn type_of_schema(
     alloc: Global,
     catalogue: &Catalogue,
-    in_column: bool,
     schema: &Identifier,
     x: &Identifier,
 ) -> Result<Typed, Fault>
-    ensures { Gives (spec.type_of_schema catalogue.now in_column schema.now x.now) result }
+    ensures { Gives (spec.type_of_schema catalogue.now schema.now x.now) result }
 {
     let home = schema.name.as_str();
     if holds_built_in(home, x.name.as_str()) {
-        built_in_or_in(alloc, catalogue, in_column, schema.place, home, x)
+        built_in_or_in(alloc, catalogue, false, schema.place, home, x)
     } else {
         type_in(alloc, catalogue, schema.place, home, x)
     }
@@ -170,7 +169,7 @@ fn named_type(
 {
     match &x.schema {
         None => built_in_or_in(alloc, catalogue, in_column, x.name.place, "public", &x.name),
-        Some(schema) => type_of_schema(alloc, catalogue, in_column, schema, &x.name),
+        Some(schema) => type_of_schema(alloc, catalogue, schema, &x.name),
     }
 }
 

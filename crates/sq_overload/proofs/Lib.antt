@@ -1,3 +1,6 @@
+pub mod Accepted
+pub mod Agreements
 pub mod Kept
 pub mod Shortness
-pub mod Stages
+pub mod TableTypes
+pub mod TypeTests

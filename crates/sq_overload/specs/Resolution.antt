@@ -1,23 +1,26 @@
--- Which row an operator or a call takes (PostgreSQL manual, sections 10.2 and 10.3).
-use Rattle.std.specs.Prelude.{ℕ, Bool, true, false, not, ◌+◌, ◌&&◌, ◌||◌, ◌==◌, if◌then◌else◌, max, List, [], ◌∷◌, Option, Some, None, option_and_then, slice_get, count_by, find, fold, is_some}
-use Rattle.std.specs.List.{list_all, list_any, position_from}
-use Rattle.std.specs.Option.{option_map}
+-- Which entry an operator or a call takes (PostgreSQL manual, sections 10.2 and 10.3): the entries of its name and its
+-- count of inputs are filtered step by step, until one is left. The steps have the numbers of section 10.2; in section
+-- 10.3 those from 3a to 3f are 4a to 4f. No argument is a domain, as step 3b has it.
+use Rattle.std.specs.Prelude.{ℕ, Bool, true, false, not, ◌+◌, ◌&&◌, ◌||◌, ◌==◌, if◌then◌else◌, max, List, [], ◌∷◌, Option, Some, None, option_and_then, slice_get, filter, find, fold}
+use Rattle.std.specs.List.{list_all, list_any}
 use Rattle.sq_base.specs.declared.types.PgType.{PgType}
 use Rattle.sq_base.specs.declared.types.Scalar.{Scalar}
 use Rattle.sq_base.specs.declared.types.Scalar.TheVariants.{Enum}
 use Rattle.sq_base.specs.declared.conversion.Category.{Category}
 use Rattle.sq_base.specs.declared.conversion.Category.TheVariants.{Strings}
 use Rattle.sq_base.specs.Types.{category, preferred}
-use Rattle.sq_builtin.specs.declared.row.Row.{Row}
 use Rattle.sq_builtin.specs.declared.row.Kind.{Kind}
 use Rattle.sq_builtin.specs.declared.row.Kind.TheVariants.{Operator, Function, Aggregate}
 use Rattle.sq_builtin.specs.declared.row.Pattern.{Pattern}
 use Rattle.sq_builtin.specs.declared.row.Pattern.TheVariants.{Is, AnyArray, AnyElement, AnyNonArray, AnyEnum, Any}
+use Rattle.sq_builtin.specs.Entries.{Entry}
 use Rattle.sq_overload.specs.declared.answer.Picked.{Picked}
 use Rattle.sq_overload.specs.declared.answer.Picked.TheVariants.{One, Nothing, Several}
 use Rattle.sq_overload.specs.declared.fit.Fit.{Fit}
 use Rattle.sq_overload.specs.declared.fit.Fit.TheVariants.{Exact, Accepting, Close, Assumed}
 use Rattle.sq_overload.specs.Converts.{is_known, is_one_type, is_one_category, converts}
+
+-- ---- how patterns fit arguments
 
 -- whether a scalar type is an enumeration
 abbrev pub is_enum : Scalar → Bool
@@ -70,7 +73,46 @@ count_fit fit (pattern ∷ inputs) [] = 0
 count_fit fit (pattern ∷ inputs) (of ∷ args) =
     (if fits fit pattern of then 1 else 0) + count_fit fit inputs args
 
--- whether a row is an operator's
+-- ---- the candidates
+
+-- a candidate: an entry, and its number among those of its name and its count of inputs
+pub record Candidate : Type 0 where
+  pub number : ℕ
+  pub entry : Entry
+
+-- entries as candidates, which are numbered from here on
+abbrev pub numbered : ℕ → List Entry → List Candidate
+numbered number [] = []
+numbered number (entry ∷ entries) = record { number = number; entry = entry } ∷ numbered (number + 1) entries
+
+-- the number of a candidate that alone is left
+abbrev pub sole : List Candidate → Option ℕ
+sole (one ∷ []) = Some one.number
+sole _ = None
+
+-- the entry of a number, and without one what comes next
+abbrev pub picked_or : Picked → Option ℕ → Picked
+picked_or next None = next
+picked_or next (Some number) = One number
+
+-- the candidate that alone is left is picked, and else what the next step picks
+abbrev pub one_or : List Candidate → Picked → Picked
+one_or left next = picked_or next (sole left)
+
+-- whether no candidate is left
+abbrev pub none_left : List Candidate → Bool
+none_left [] = true
+none_left (one ∷ left) = false
+
+-- ---- step 2: an entry that has exactly the types of the arguments
+
+-- the candidates that are exact at every argument
+abbrev pub exact : List PgType → List Candidate → List Candidate
+exact args candidates = filter (λ (of : Candidate). all_fit Exact of.entry.inputs args) candidates
+
+-- ---- step 2a: for a binary operator, an unknown operand is taken to be of the other's type
+
+-- whether an entry is an operator's
 abbrev pub is_operator : Kind → Bool
 is_operator Operator = true
 is_operator Function = false
@@ -84,37 +126,44 @@ other_operand (one ∷ other ∷ []) =
     else None
 other_operand _ = None
 
--- whether a row is a binary operator's that is exact with a type on both sides
-abbrev pub is_alike : Option PgType → Row → Bool
-is_alike None row = false
-is_alike (Some of) row =
-    is_operator row.kind && all_fit Exact row.inputs.now (of ∷ of ∷ [])
+-- whether an entry is a binary operator's that is exact with a type on both sides
+abbrev pub is_alike : PgType → Entry → Bool
+is_alike of entry = is_operator entry.kind && all_fit Exact entry.inputs (of ∷ of ∷ [])
 
--- whether every argument of a row is exact; whether the row accepts the arguments
-abbrev pub is_exact_row : List PgType → Row → Bool
-is_exact_row args row = all_fit Exact row.inputs.now args
+-- the candidates that are exact with the one known operand's type on both sides
+abbrev pub alike : Option PgType → List Candidate → List Candidate
+alike None candidates = []
+alike (Some operand) candidates = filter (λ (of : Candidate). is_alike operand of.entry) candidates
 
-abbrev pub accepts_row : List PgType → Row → Bool
-accepts_row args row = all_fit Accepting row.inputs.now args
+-- ---- step 3a: candidates that do not accept the arguments are dropped
 
--- the greatest count of arguments that fit, over the rows that pass a test
-abbrev pub most : (Row → Bool) → Fit → List PgType → List Row → ℕ
-most test fit args rows =
-    fold (λ most row. if test row then max most (count_fit fit row.inputs.now args) else most) 0 rows
+-- the candidates that accept every argument
+abbrev pub accepting : List PgType → List Candidate → List Candidate
+accepting args candidates = filter (λ (of : Candidate). all_fit Accepting of.entry.inputs args) candidates
 
--- of the rows that pass a test, those with the most arguments that fit
-abbrev pub with_most : (Row → Bool) → Fit → List PgType → List Row → Row → Bool
-with_most test fit args rows row =
-    test row && count_fit fit row.inputs.now args == most test fit args rows
+-- ---- steps 3c and 3d: those with the most exact arguments are kept, and of these those with the most arguments that
+-- are exact or of the preferred type of their category
+
+-- the greatest count of arguments that fit a candidate, and at least this
+abbrev pub most_from : Fit → List PgType → ℕ → List Candidate → ℕ
+most_from fit args most candidates =
+    fold (λ most (of : Candidate). max most (count_fit fit of.entry.inputs args)) most candidates
+
+-- the candidates with the most arguments that fit
+abbrev pub with_most : Fit → List PgType → List Candidate → List Candidate
+with_most fit args candidates =
+    filter (λ (of : Candidate). count_fit fit of.entry.inputs args == most_from fit args 0 candidates) candidates
+
+-- ---- step 3e: at each unknown argument a category is chosen
 
 -- the category of a pattern: the patterns that are no types are together one of their own, None
 abbrev pub slot_of : Pattern → Option Category
 slot_of (Is to) = if is_known to then Some (category to) else None
 slot_of _ = None
 
--- the category of a row at a place
-abbrev pub slot_at : ℕ → Row → Option Category
-slot_at place row = option_and_then slot_of (slice_get row.inputs.now place)
+-- the category of an entry at a place
+abbrev pub slot_at : ℕ → Entry → Option Category
+slot_at place entry = option_and_then slot_of (slice_get entry.inputs place)
 
 -- whether two categories of patterns are one
 abbrev pub is_one_slot : Option Category → Option Category → Bool
@@ -122,44 +171,34 @@ is_one_slot None None = true
 is_one_slot (Some of) (Some other) = is_one_category of other
 is_one_slot _ _ = false
 
--- whether a row that passes a test has a category at a place
-abbrev pub some_in_slot : (Row → Bool) → List Row → ℕ → Option Category → Bool
-some_in_slot test rows place slot = list_any (λ row. test row && is_one_slot (slot_at place row) slot) rows
+-- whether a candidate has a category at a place
+abbrev pub has_slot : ℕ → Option Category → Candidate → Bool
+has_slot place slot of = is_one_slot (slot_at place of.entry) slot
 
--- whether every row that passes a test has a category at a place
-abbrev pub all_in_slot : (Row → Bool) → List Row → ℕ → Option Category → Bool
-all_in_slot test rows place slot = list_all (λ row. not (test row) || is_one_slot (slot_at place row) slot) rows
+-- the category of the first candidate at a place
+abbrev pub first_slot : ℕ → List Candidate → Option (Option Category)
+first_slot place [] = None
+first_slot place (first ∷ left) = Some (slot_at place first.entry)
 
--- the category of all rows that pass a test, where the first of them has this one
-abbrev pub common_slot : (Row → Bool) → List Row → ℕ → Option (Option Category) → Option (Option Category)
-common_slot test rows place None = None
-common_slot test rows place (Some slot) = if all_in_slot test rows place slot then Some slot else None
+-- a category, if all candidates have it at a place
+abbrev pub common_slot : ℕ → List Candidate → Option (Option Category) → Option (Option Category)
+common_slot place candidates None = None
+common_slot place candidates (Some slot) = if list_all (has_slot place slot) candidates then Some slot else None
 
--- the category that is chosen at a place: strings where a row has them there, else the one category
--- that all rows have there, else none
-abbrev pub chosen_slot : (Row → Bool) → List Row → ℕ → Option (Option Category)
-chosen_slot test rows place =
-    if some_in_slot test rows place (Some Strings) then Some (Some Strings)
-    else common_slot test rows place (option_map (slot_at place) (find test rows))
+-- the category that is chosen at a place: strings where a candidate has them there, else the one category that all
+-- candidates have there, else none
+abbrev pub chosen_slot : ℕ → List Candidate → Option (Option Category)
+chosen_slot place candidates =
+    if list_any (has_slot place (Some Strings)) candidates then Some (Some Strings)
+    else common_slot place candidates (first_slot place candidates)
 
--- whether a row has the category that is chosen at a place
-abbrev pub is_in_slot : Option (Option Category) → ℕ → Row → Bool
-is_in_slot None place row = false
-is_in_slot (Some slot) place row = is_one_slot (slot_at place row) slot
-
--- whether a test of places passes at each unknown argument
-abbrev pub each_unknown : (ℕ → Bool) → ℕ → List PgType → Bool
-each_unknown test place [] = true
-each_unknown test place (of ∷ args) = (is_known of || test place) && each_unknown test (place + 1) args
-
--- whether a category is chosen at each unknown argument
-abbrev pub has_slots : (Row → Bool) → List PgType → List Row → Bool
-has_slots test args rows = each_unknown (λ place. is_some (chosen_slot test rows place)) 0 args
-
--- whether a row has the chosen category at each unknown argument
-abbrev pub is_in_slots : (Row → Bool) → List PgType → List Row → Row → Bool
-is_in_slots test args rows row =
-    test row && each_unknown (λ place. is_in_slot (chosen_slot test rows place) place row) 0 args
+-- those of the candidates left that have the category chosen among all candidates, at each unknown argument from a place
+-- on, or None where none can be chosen
+abbrev pub placed : List Candidate → ℕ → List PgType → List Candidate → Option (List Candidate)
+placed all place [] left = Some left
+placed all place (of ∷ args) left =
+    if is_known of then placed all (place + 1) args left
+    else option_and_then (λ slot. placed all (place + 1) args (filter (has_slot place slot) left)) (chosen_slot place all)
 
 -- whether a pattern is the preferred type of its category
 abbrev pub prefers : Pattern → Bool
@@ -171,78 +210,80 @@ abbrev pub prefers_any : Option Pattern → Bool
 prefers_any None = false
 prefers_any (Some pattern) = prefers pattern
 
--- whether a row has the preferred type of its category at a place
-abbrev pub prefers_at : ℕ → Row → Bool
-prefers_at place row = prefers_any (slice_get row.inputs.now place)
+-- whether an entry has the preferred type of its category at a place
+abbrev pub prefers_at : ℕ → Entry → Bool
+prefers_at place entry = prefers_any (slice_get entry.inputs place)
 
--- whether a row that passes a test has the preferred type at a place
-abbrev pub some_prefers : (Row → Bool) → List Row → ℕ → Bool
-some_prefers test rows place = list_any (λ row. test row && prefers_at place row) rows
+-- whether a candidate has the preferred type of its category at a place
+abbrev pub is_preferring : ℕ → Candidate → Bool
+is_preferring place of = prefers_at place of.entry
 
--- whether a row has the preferred type at each unknown argument where some row has it
-abbrev pub is_preferring : (Row → Bool) → List PgType → List Row → Row → Bool
-is_preferring test args rows row =
-    test row && each_unknown (λ place. not (some_prefers test rows place) || prefers_at place row) 0 args
+-- those of the candidates left that have the preferred type, at each unknown argument from a place on where one of all
+-- candidates has it
+abbrev pub preferring : List Candidate → ℕ → List PgType → List Candidate → List Candidate
+preferring all place [] left = left
+preferring all place (of ∷ args) left =
+    preferring all (place + 1) args
+    (if not (is_known of) && list_any (is_preferring place) all then filter (is_preferring place) left else left)
 
--- the type that unknown arguments are taken to be of: that of the known ones, where they have one
+-- all candidates, where none would be left
+abbrev pub unless_none : List Candidate → List Candidate → List Candidate
+unless_none all left = if none_left left then all else left
+
+-- ---- step 3f: the unknown arguments are taken to be of the type of the known ones, if these have one
+
+-- a type, if all known arguments are of it
 abbrev pub assumed_from : List PgType → Option PgType → Option PgType
 assumed_from args None = None
 assumed_from args (Some first) =
     if list_all (λ of. not (is_known of) || is_one_type first of) args then Some first else None
 
+-- the type that unknown arguments are taken to be of, where there are unknown and known ones
 abbrev pub assumed : List PgType → Option PgType
 assumed args = if list_all is_known args then None else assumed_from args (find is_known args)
 
--- the place of the row that alone passes a test
-abbrev pub sole : (Row → Bool) → List Row → Option ℕ
-sole test rows = if count_by test rows == 1 then position_from test 0 rows else None
+-- the candidates that accept a type at the unknown arguments
+abbrev pub assuming : PgType → List PgType → List Candidate → List Candidate
+assuming guess args candidates = filter (λ (of : Candidate). all_fit (Assumed guess) of.entry.inputs args) candidates
 
--- the row at a place, and else what comes next
-abbrev pub row_or : Picked → Option ℕ → Picked
-row_or next None = next
-row_or next (Some place) = One place
+-- ---- the steps, from the last to the first: each is taken where more than one candidate is left
 
--- the row that alone passes a test, and else what comes next
-abbrev pub one_or : (Row → Bool) → List Row → Picked → Picked
-one_or test rows next = row_or next (sole test rows)
+-- step 3f, if there is such a type
+abbrev pub pick_assuming : List PgType → List Candidate → Option PgType → Picked
+pick_assuming args left None = Several
+pick_assuming args left (Some guess) = one_or (assuming guess args left) Several
 
--- the last assumption, over the rows that pass a test: the unknown arguments are taken to be of the
--- type of the known ones
-abbrev pub pick_assuming : List PgType → List Row → (Row → Bool) → Option PgType → Picked
-pick_assuming args rows test None = Several
-pick_assuming args rows test (Some guess) =
-    one_or (λ row. test row && all_fit (Assumed guess) row.inputs.now args) rows Several
+-- what remains of step 3e, and then step 3f
+abbrev pub pick_last : List PgType → List Candidate → Picked
+pick_last args left = one_or left (pick_assuming args left (assumed args))
 
--- what remains after the categories are chosen
-abbrev pub pick_last : List PgType → List Row → (Row → Bool) → Picked
-pick_last args rows test = one_or test rows (pick_assuming args rows test (assumed args))
+-- step 3e, with the candidates of the chosen categories, if each unknown argument has one
+abbrev pub pick_placed : List PgType → List Candidate → Option (List Candidate) → Picked
+pick_placed args left None = Several
+pick_placed args left (Some placed) = pick_last args (unless_none left (preferring placed 0 args placed))
 
--- a category is chosen at each unknown argument; where no row has all of them, all rows are kept
-abbrev pub pick_by_category : List PgType → List Row → (Row → Bool) → Picked
-pick_by_category args rows test =
-    if not (has_slots test args rows) then Several
-    else if list_any (is_preferring (is_in_slots test args rows) args rows) rows then pick_last args rows (is_preferring (is_in_slots test args rows) args rows)
-    else pick_last args rows test
+-- step 3e
+abbrev pub pick_by_category : List PgType → List Candidate → Picked
+pick_by_category args left = pick_placed args left (placed left 0 args left)
 
--- the rows with the most arguments that are exact or of the preferred type of their category
-abbrev pub pick_closest : List PgType → List Row → (Row → Bool) → Picked
-pick_closest args rows test =
-    one_or (with_most test Close args rows) rows (pick_by_category args rows (with_most test Close args rows))
+-- step 3d, and then step 3e
+abbrev pub pick_closest : List PgType → List Candidate → Picked
+pick_closest args left = one_or (with_most Close args left) (pick_by_category args (with_most Close args left))
 
--- the rows with the most exact arguments
-abbrev pub pick_most_exact : List PgType → List Row → (Row → Bool) → Picked
-pick_most_exact args rows test =
-    one_or (with_most test Exact args rows) rows (pick_closest args rows (with_most test Exact args rows))
+-- step 3c, and then step 3d
+abbrev pub pick_most_exact : List PgType → List Candidate → Picked
+pick_most_exact args left = one_or (with_most Exact args left) (pick_closest args (with_most Exact args left))
 
--- the rows that accept the arguments
-abbrev pub pick_accepting : List PgType → List Row → Picked
-pick_accepting args rows =
-    if list_any (accepts_row args) rows then one_or (accepts_row args) rows (pick_most_exact args rows (accepts_row args))
-    else Nothing
+-- what remains of step 3a, and then step 3c
+abbrev pub pick_accepting : List PgType → List Candidate → Picked
+pick_accepting args left = if none_left left then Nothing else one_or left (pick_most_exact args left)
 
--- the row that is exact; for a binary operator with one unknown operand, the row that is exact with
--- the other's type on both sides; and else the rows are narrowed down, until one is left
-abbrev pub pick : List Row → List PgType → Picked
-pick rows args =
-    one_or (is_exact_row args) rows
-    (one_or (is_alike (other_operand args)) rows (pick_accepting args rows))
+-- step 2, step 2a, and then step 3a
+abbrev pub pick_among : List PgType → List Candidate → Picked
+pick_among args candidates =
+    one_or (exact args candidates)
+    (one_or (alike (other_operand args) candidates) (pick_accepting args (accepting args candidates)))
+
+-- which of the entries of a name and a count of inputs is picked for these arguments
+abbrev pub pick : List Entry → List PgType → Picked
+pick entries args = pick_among args (numbered 0 entries)

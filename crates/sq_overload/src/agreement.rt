@@ -5,6 +5,7 @@ ghost use Rattle.std.specs.List.{list_all};
 ghost use Rattle.sq_base.specs.Types.{IsBase};
 ghost use Rattle.sq_overload.specs.CommonType.{agreed, common, common_of_several, differs, next_candidate, one_type, settled};
 ghost use Rattle.sq_overload.specs.Converts.{is_known, is_one_type};
+ghost use Rattle.sq_overload.specs.Domains.{NoDomainUnlessOne};
 
 use crate::answer::Common;
 use crate::converts::{converts, is_known, is_one_category, is_one_type};
@@ -85,8 +86,8 @@ fn are_one_type(first: PgType, types: &[PgType]) -> bool
     true
 }
 
-// The type of all of these, a domain too, where they have one.
-fn one_type(types: &[PgType]) -> Option<PgType>
+/// The type of all of these, a domain too, where they have one.
+pub fn one_type(types: &[PgType]) -> Option<PgType>
     ensures { result ≡ one_type types.now }
 {
     match types {
@@ -114,8 +115,10 @@ fn common_of_several(types: &[PgType]) -> Common
     }
 }
 
-/// The common type of a list that is not empty and holds no domain, or one domain alone.
+/// The common type of a list, or the candidate and the first type that does not agree with it. A caller gives the base
+/// type of a domain, unless all are of one domain.
 pub fn common(types: &[PgType]) -> Common
+    requires plain { NoDomainUnlessOne types.now }
     ensures { result ≡ common types.now }
 {
     match one_type(types) {

@@ -1,18 +1,26 @@
 //! What is chosen at unknown arguments.
 
-ghost use Rattle.std.specs.Prelude.{◌≡◌, ◌≤◌, length, IfSome};
+ghost use Rattle.std.specs.Prelude.{◌≡◌, ◌≤◌, Some, length};
+ghost use Rattle.std.specs.List.{list_any};
 ghost use Rattle.std.specs.Option.{option_map};
-ghost use Rattle.sq_overload.specs.Masks.{chosen_kept, common_kept, placed, preferring};
-ghost use Rattle.sq_overload.specs.Resolution.{slot_at};
+ghost use Rattle.sq_overload.specs.Masks.{kept, passes};
+ghost use Rattle.sq_overload.specs.Resolution.{Candidate, chosen_slot, common_slot, placed, preferring};
 
 use crate::converts::is_known;
-use crate::mask::{Mask, first, keep};
-use crate::slot::slot_at;
+use crate::mask::{Mask, all_pass, first_slot, keep, none_left};
 use crate::test::Test;
 use sq_base::{Category, PgType};
 use sq_builtin::Row;
 
-// The category of all rows that are kept, where the first of them has this one.
+// Whether a row that is kept passes a test.
+fn some_pass(args: &[PgType], rows: &[Row], mask: Mask, test: Test) -> bool
+    requires few { length rows.now ≤ 128 }
+    ensures { result ≡ list_any (λ (of : Candidate). passes args.now test of.entry) (kept rows.now mask.bits) }
+{
+    !none_left(rows, keep(args, rows, mask, test))
+}
+
+// A category, if all rows that are kept have it at a place.
 fn common_slot(
     args: &[PgType],
     rows: &[Row],
@@ -20,11 +28,10 @@ fn common_slot(
     place: usize,
     first: Option<Option<Category>>,
 ) -> Option<Option<Category>>
-    requires few { length rows.now ≤ 128 }
-    ensures { result ≡ common_kept args.now rows.now mask.bits place first }
+    ensures { result ≡ common_slot place (kept rows.now mask.bits) first }
 {
     let slot = first?;
-    if keep(args, rows, mask, Test::Placed(place, slot)).bits == mask.bits {
+    if all_pass(args, rows, mask, Test::Placed(place, slot)) {
         Some(slot)
     } else {
         None
@@ -34,47 +41,44 @@ fn common_slot(
 // The category that is chosen at a place.
 fn chosen_slot(args: &[PgType], rows: &[Row], mask: Mask, place: usize) -> Option<Option<Category>>
     requires few { length rows.now ≤ 128 }
-    ensures { result ≡ chosen_kept args.now rows.now mask.bits place }
+    ensures { result ≡ chosen_slot place (kept rows.now mask.bits) }
 {
     let strings = Some(Category::Strings);
-    if !keep(args, rows, mask, Test::Placed(place, strings)).is_empty() {
-        return Some(strings);
+    if some_pass(args, rows, mask, Test::Placed(place, strings)) {
+        Some(strings)
+    } else {
+        common_slot(args, rows, mask, place, first_slot(rows, mask, place))
     }
-    let slot = match first(rows, mask) {
-        Some(row) => Some(slot_at(place, row)),
-        None => None,
-    };
-    common_slot(args, rows, mask, place, slot)
 }
 
 /// The rows that have the category that is chosen at each unknown argument, or none where one has no
 /// category.
 pub fn placed(args: &[PgType], rows: &[Row], mask: Mask) -> Option<Mask>
     requires few { length rows.now ≤ 128 }
-    ensures { option_map (λ mask. mask.bits) result ≡ placed args.now rows.now mask.bits 0 args.now mask.bits }
+    ensures { option_map (λ mask. kept rows.now mask.bits) result ≡ placed (kept rows.now mask.bits) 0 args.now (kept rows.now mask.bits) }
 {
-    let mut kept = mask;
+    let mut left = mask;
     for place in 0..args.len() {
         if !is_known(args[place]) {
             match chosen_slot(args, rows, mask, place) {
-                Some(slot) => kept = keep(args, rows, kept, Test::Placed(place, slot)),
+                Some(slot) => left = keep(args, rows, left, Test::Placed(place, slot)),
                 None => return None,
             }
         }
     }
-    Some(kept)
+    Some(left)
 }
 
 /// The rows that have the preferred type at each unknown argument where one of them has it.
 pub fn preferring(args: &[PgType], rows: &[Row], mask: Mask) -> Mask
     requires few { length rows.now ≤ 128 }
-    ensures { result.bits ≡ preferring args.now rows.now mask.bits 0 args.now mask.bits }
+    ensures { kept rows.now result.bits ≡ preferring (kept rows.now mask.bits) 0 args.now (kept rows.now mask.bits) }
 {
-    let mut kept = mask;
+    let mut left = mask;
     for place in 0..args.len() {
-        if !is_known(args[place]) && !keep(args, rows, mask, Test::Preferring(place)).is_empty() {
-            kept = keep(args, rows, kept, Test::Preferring(place));
+        if !is_known(args[place]) && some_pass(args, rows, mask, Test::Preferring(place)) {
+            left = keep(args, rows, left, Test::Preferring(place));
         }
     }
-    kept
+    left
 }

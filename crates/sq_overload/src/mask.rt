@@ -1,12 +1,15 @@
 //! Which rows are kept.
 
-ghost use Rattle.std.specs.Prelude.{◌≡◌, ◌==◌, ◌+◌, ◌^◌, ◌<◌, ◌≤◌, ◌&&◌, None, Some, if◌then◌else◌, length, max, option_copied};
-ghost use Rattle.sq_overload.specs.Masks.{behind, first_kept, keeps, mask_of, most_kept, narrowed, passes, sole_kept};
-ghost use Rattle.sq_overload.specs.Resolution.{count_fit};
+ghost use Rattle.std.specs.Prelude.{◌≡◌, ◌==◌, ◌+◌, ◌^◌, ◌<◌, ◌≤◌, ◌&&◌, ◌||◌, None, Some, not, if◌then◌else◌, filter, length, map, max};
+ghost use Rattle.std.specs.List.{list_all};
+ghost use Rattle.sq_builtin.specs.Entries.{entry_of};
+ghost use Rattle.sq_overload.specs.Masks.{behind, keeps, kept, passes};
+ghost use Rattle.sq_overload.specs.Resolution.{Candidate, count_fit, first_slot, most_from, none_left, numbered, sole};
 
 use crate::fit::{Fit, count_fit};
+use crate::slot::slot_at;
 use crate::test::{Test, passes};
-use sq_base::PgType;
+use sq_base::{Category, PgType};
 use sq_builtin::Row;
 
 /// The rows that are kept of at most 128: the lowest bit is that of the first row.
@@ -16,13 +19,6 @@ pub struct Mask {
 }
 
 impl Mask {
-    /// Whether no row is kept.
-    pub fn is_empty(self) -> bool
-        ensures { result ≡ (self.bits == 0) }
-    {
-        self.bits == 0
-    }
-
     // Whether the first row is kept.
     #[tactic(auto, unfolding(crate::specs::Masks::keeps))]
     fn keeps(self) -> bool
@@ -57,9 +53,17 @@ impl Mask {
     }
 }
 
+/// The mask that keeps every row.
+pub fn every(rows: &[Row]) -> Mask
+    requires few { length rows.now ≤ 128 }
+    ensures { kept rows.now result.bits ≡ numbered 0 (map entry_of rows.now) }
+{
+    Mask { bits: u128::MAX }
+}
+
 // Whether the first row of a mask is kept, and passes a test.
 fn stays(args: &[PgType], left: Mask, test: Test, row: &Row) -> bool
-    ensures { result ≡ (keeps left.bits && passes args.now test row.now) }
+    ensures { result ≡ (keeps left.bits && passes args.now test (entry_of row.now)) }
 {
     left.keeps() && passes(args, test, row)
 }
@@ -67,7 +71,7 @@ fn stays(args: &[PgType], left: Mask, test: Test, row: &Row) -> bool
 /// The rows of a mask that pass a test.
 pub fn keep(args: &[PgType], rows: &[Row], mask: Mask, test: Test) -> Mask
     requires few { length rows.now ≤ 128 }
-    ensures { result.bits ≡ narrowed (passes args.now test) mask.bits rows.now }
+    ensures { kept rows.now result.bits ≡ filter (λ (of : Candidate). passes args.now test of.entry) (kept rows.now mask.bits) }
 {
     let mut left = mask;
     let mut kept = Mask { bits: 0 };
@@ -78,19 +82,46 @@ pub fn keep(args: &[PgType], rows: &[Row], mask: Mask, test: Test) -> Mask
     kept
 }
 
-/// The rows that pass a test.
-pub fn passing(args: &[PgType], rows: &[Row], test: Test) -> Mask
-    requires few { length rows.now ≤ 128 }
-    ensures { result.bits ≡ mask_of (passes args.now test) rows.now }
+/// Whether a mask keeps no row.
+pub fn none_left(rows: &[Row], mask: Mask) -> bool
+    ensures { result ≡ none_left (kept rows.now mask.bits) }
 {
-    keep(args, rows, Mask { bits: u128::MAX }, test)
+    let mut left = mask;
+    for _row in rows {
+        if left.keeps() {
+            return false;
+        }
+        left = left.behind();
+    }
+    true
 }
 
-// The place, if it is that of the only row of a mask.
-fn only(left: Mask, place: usize) -> Option<usize>
-    ensures { result ≡ (if behind left.bits == 0 then Some place else None) }
+// Whether the first row of a mask is dropped, or passes a test.
+fn fits_in(args: &[PgType], left: Mask, test: Test, row: &Row) -> bool
+    ensures { result ≡ (not (keeps left.bits) || passes args.now test (entry_of row.now)) }
 {
-    if left.behind().is_empty() {
+    !left.keeps() || passes(args, test, row)
+}
+
+/// Whether every row of a mask passes a test.
+pub fn all_pass(args: &[PgType], rows: &[Row], mask: Mask, test: Test) -> bool
+    ensures { result ≡ list_all (λ (of : Candidate). passes args.now test of.entry) (kept rows.now mask.bits) }
+{
+    let mut left = mask;
+    for row in rows {
+        if !fits_in(args, left, test, row) {
+            return false;
+        }
+        left = left.behind();
+    }
+    true
+}
+
+// A place, if no row of those behind it is kept.
+fn only(place: usize, rest: &[Row], left: Mask) -> Option<usize>
+    ensures { result ≡ (if none_left (kept rest.now left.bits) then Some place else None) }
+{
+    if none_left(rest, left) {
         Some(place)
     } else {
         None
@@ -99,26 +130,26 @@ fn only(left: Mask, place: usize) -> Option<usize>
 
 /// The place of the one row that is kept.
 pub fn sole(rows: &[Row], mask: Mask) -> Option<usize>
-    ensures { result ≡ sole_kept 0 mask.bits rows.now }
+    ensures { result ≡ sole (kept rows.now mask.bits) }
 {
     let mut left = mask;
     for place in 0..rows.len() {
         if left.keeps() {
-            return only(left, place);
+            return only(place, &rows[place + 1..], left.behind());
         }
         left = left.behind();
     }
     None
 }
 
-/// The first row that is kept.
-pub fn first(rows: &[Row], mask: Mask) -> Option<&Row>
-    ensures { option_copied result ≡ first_kept mask.bits rows.now }
+/// The category of the first row that is kept, at a place.
+pub fn first_slot(rows: &[Row], mask: Mask, place: usize) -> Option<Option<Category>>
+    ensures { result ≡ first_slot place (kept rows.now mask.bits) }
 {
     let mut left = mask;
     for row in rows {
         if left.keeps() {
-            return Some(row);
+            return Some(slot_at(place, row));
         }
         left = left.behind();
     }
@@ -138,7 +169,7 @@ fn greater(args: &[PgType], left: Mask, fit: Fit, most: usize, row: &Row) -> usi
 
 /// The greatest count of arguments that fit a row that is kept.
 pub fn most(args: &[PgType], rows: &[Row], mask: Mask, fit: Fit) -> usize
-    ensures { result ≡ most_kept fit args.now 0 mask.bits rows.now }
+    ensures { result ≡ most_from fit args.now 0 (kept rows.now mask.bits) }
 {
     let mut left = mask;
     let mut most = 0;

@@ -1,17 +1,19 @@
 //! Which row an operator or a call takes.
 
-ghost use Rattle.std.specs.Prelude.{◌≡◌, ◌≤◌, length};
+ghost use Rattle.std.specs.Prelude.{◌≡◌, ◌≤◌, Some, length, map};
 ghost use Rattle.std.specs.List.{list_all};
+ghost use Rattle.sq_builtin.specs.Entries.{entry_of};
 ghost use Rattle.sq_overload.specs.Converts.{is_known};
-ghost use Rattle.sq_overload.specs.Masks.{accepting_kept, assuming_kept, by_category_kept, closest_kept, last_kept, most_exact_kept, passes, with_most_kept};
-ghost use Rattle.sq_overload.specs.Resolution.{assumed, assumed_from, is_alike, other_operand, pick, pick_accepting, sole};
+ghost use Rattle.sq_overload.specs.Domains.{NoDomain};
+ghost use Rattle.sq_overload.specs.Masks.{kept};
+ghost use Rattle.sq_overload.specs.Resolution.{accepting, alike, assumed, assumed_from, other_operand, pick, pick_accepting, pick_among, pick_assuming, pick_by_category, pick_closest, pick_last, pick_most_exact, sole, unless_none, with_most};
 
 use crate::agreement::first_known;
 use crate::answer::Picked;
 use crate::choice::{placed, preferring};
 use crate::converts::{is_known, is_one_type};
 use crate::fit::Fit;
-use crate::mask::{Mask, keep, most, passing, sole};
+use crate::mask::{Mask, every, keep, most, none_left, sole};
 use crate::test::Test;
 use sq_base::PgType;
 use sq_builtin::Row;
@@ -67,7 +69,7 @@ fn other_operand(args: &[PgType]) -> Option<PgType>
 // The row that alone accepts a type at the unknown arguments.
 fn pick_assuming(args: &[PgType], rows: &[Row], mask: Mask, guess: Option<PgType>) -> Picked
     requires few { length rows.now ≤ 128 }
-    ensures { result ≡ assuming_kept args.now rows.now mask.bits guess }
+    ensures { result ≡ pick_assuming args.now (kept rows.now mask.bits) guess }
 {
     match guess {
         None => Picked::Several,
@@ -84,7 +86,7 @@ fn pick_assuming(args: &[PgType], rows: &[Row], mask: Mask, guess: Option<PgType
 // The row that alone is kept, or else after the last assumption.
 fn pick_last(args: &[PgType], rows: &[Row], mask: Mask) -> Picked
     requires few { length rows.now ≤ 128 }
-    ensures { result ≡ last_kept args.now rows.now mask.bits }
+    ensures { result ≡ pick_last args.now (kept rows.now mask.bits) }
 {
     match sole(rows, mask) {
         Some(place) => Picked::One(place),
@@ -92,20 +94,23 @@ fn pick_last(args: &[PgType], rows: &[Row], mask: Mask) -> Picked
     }
 }
 
+// All rows, where none would be left.
+fn unless_none(rows: &[Row], mask: Mask, left: Mask) -> Mask
+    ensures { kept rows.now result.bits ≡ unless_none (kept rows.now mask.bits) (kept rows.now left.bits) }
+{
+    if none_left(rows, left) { mask } else { left }
+}
+
 // The row that is picked after a category is chosen at each unknown argument.
 fn pick_by_category(args: &[PgType], rows: &[Row], mask: Mask) -> Picked
     requires few { length rows.now ≤ 128 }
-    ensures { result ≡ by_category_kept args.now rows.now mask.bits }
+    ensures { result ≡ pick_by_category args.now (kept rows.now mask.bits) }
 {
     match placed(args, rows, mask) {
         None => Picked::Several,
         Some(placed) => {
-            let preferring = preferring(args, rows, placed);
-            if preferring.is_empty() {
-                pick_last(args, rows, mask)
-            } else {
-                pick_last(args, rows, preferring)
-            }
+            let left = unless_none(rows, mask, preferring(args, rows, placed));
+            pick_last(args, rows, left)
         }
     }
 }
@@ -113,7 +118,7 @@ fn pick_by_category(args: &[PgType], rows: &[Row], mask: Mask) -> Picked
 // The rows with the most arguments that fit.
 fn with_most(args: &[PgType], rows: &[Row], mask: Mask, fit: Fit) -> Mask
     requires few { length rows.now ≤ 128 }
-    ensures { result.bits ≡ with_most_kept fit args.now mask.bits rows.now }
+    ensures { kept rows.now result.bits ≡ with_most fit args.now (kept rows.now mask.bits) }
 {
     let most = most(args, rows, mask, fit);
     keep(args, rows, mask, Test::Counting(fit, most))
@@ -122,7 +127,7 @@ fn with_most(args: &[PgType], rows: &[Row], mask: Mask, fit: Fit) -> Mask
 // The row that is picked among those with the most exact arguments.
 fn pick_closest(args: &[PgType], rows: &[Row], mask: Mask) -> Picked
     requires few { length rows.now ≤ 128 }
-    ensures { result ≡ closest_kept args.now rows.now mask.bits }
+    ensures { result ≡ pick_closest args.now (kept rows.now mask.bits) }
 {
     let closest = with_most(args, rows, mask, Fit::Close);
     match sole(rows, closest) {
@@ -134,7 +139,7 @@ fn pick_closest(args: &[PgType], rows: &[Row], mask: Mask) -> Picked
 // The row that is picked among those that accept the arguments, if more than one does.
 fn pick_most_exact(args: &[PgType], rows: &[Row], mask: Mask) -> Picked
     requires few { length rows.now ≤ 128 }
-    ensures { result ≡ most_exact_kept args.now rows.now mask.bits }
+    ensures { result ≡ pick_most_exact args.now (kept rows.now mask.bits) }
 {
     let exact = with_most(args, rows, mask, Fit::Exact);
     match sole(rows, exact) {
@@ -144,11 +149,11 @@ fn pick_most_exact(args: &[PgType], rows: &[Row], mask: Mask) -> Picked
 }
 
 // The row that is picked among those that accept the arguments.
-fn pick_among(args: &[PgType], rows: &[Row], mask: Mask) -> Picked
+fn pick_accepting(args: &[PgType], rows: &[Row], mask: Mask) -> Picked
     requires few { length rows.now ≤ 128 }
-    ensures { result ≡ accepting_kept args.now rows.now mask.bits }
+    ensures { result ≡ pick_accepting args.now (kept rows.now mask.bits) }
 {
-    if mask.is_empty() {
+    if none_left(rows, mask) {
         return Picked::Nothing;
     }
     match sole(rows, mask) {
@@ -157,45 +162,39 @@ fn pick_among(args: &[PgType], rows: &[Row], mask: Mask) -> Picked
     }
 }
 
-// The row that is picked where none is exact.
-fn pick_accepting(args: &[PgType], rows: &[Row]) -> Picked
+// The place of the row of a binary operator that alone is exact with the one known operand's type on both sides.
+fn sole_alike(args: &[PgType], rows: &[Row], mask: Mask) -> Option<usize>
     requires few { length rows.now ≤ 128 }
-    ensures { result ≡ pick_accepting args.now rows.now }
-{
-    let accepting = passing(args, rows, Test::Fitting(Fit::Accepting));
-    pick_among(args, rows, accepting)
-}
-
-// The place of the row that alone passes a test.
-fn sole_passing(args: &[PgType], rows: &[Row], test: Test) -> Option<usize>
-    requires few { length rows.now ≤ 128 }
-    ensures { result ≡ sole (passes args.now test) rows.now }
-{
-    sole(rows, passing(args, rows, test))
-}
-
-// The row of a binary operator that is exact with the one known operand's type on both sides.
-fn sole_alike(args: &[PgType], rows: &[Row]) -> Option<usize>
-    requires few { length rows.now ≤ 128 }
-    ensures { result ≡ sole (is_alike (other_operand args.now)) rows.now }
+    ensures { result ≡ sole (alike (other_operand args.now) (kept rows.now mask.bits)) }
 {
     match other_operand(args) {
-        Some(of) => sole_passing(args, rows, Test::Alike(of)),
+        Some(of) => sole(rows, keep(args, rows, mask, Test::Alike(of))),
         None => None,
     }
 }
 
-/// The row, of at most 128 of one name and count, that an operator or a call with these arguments
-/// takes. No argument is a domain.
+// The row that is picked among those of a mask.
+fn pick_among(args: &[PgType], rows: &[Row], mask: Mask) -> Picked
+    requires few { length rows.now ≤ 128 }
+    ensures { result ≡ pick_among args.now (kept rows.now mask.bits) }
+{
+    let exact = keep(args, rows, mask, Test::Fitting(Fit::Exact));
+    if let Some(place) = sole(rows, exact) {
+        return Picked::One(place);
+    }
+    if let Some(place) = sole_alike(args, rows, mask) {
+        return Picked::One(place);
+    }
+    let accepting = keep(args, rows, mask, Test::Fitting(Fit::Accepting));
+    pick_accepting(args, rows, accepting)
+}
+
+/// The row, of at most 128 of one name and count, that an operator or a call with these arguments takes. A caller gives
+/// the base type of an argument that has a domain.
 pub fn pick(rows: &[Row], args: &[PgType]) -> Picked
     requires few { length rows.now ≤ 128 }
-    ensures { result ≡ pick rows.now args.now }
+    requires plain { NoDomain args.now }
+    ensures { result ≡ pick (map entry_of rows.now) args.now }
 {
-    if let Some(place) = sole_passing(args, rows, Test::Fitting(Fit::Exact)) {
-        return Picked::One(place);
-    }
-    if let Some(place) = sole_alike(args, rows) {
-        return Picked::One(place);
-    }
-    pick_accepting(args, rows)
+    pick_among(args, rows, every(rows))
 }

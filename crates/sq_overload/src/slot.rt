@@ -1,6 +1,7 @@
 //! The categories of rows at a place.
 
 ghost use Rattle.std.specs.Prelude.{◌≡◌};
+ghost use Rattle.sq_builtin.specs.Entries.{entry_of};
 ghost use Rattle.sq_overload.specs.Resolution.{is_one_slot, prefers, prefers_at, slot_at, slot_of};
 
 use crate::converts::{is_known, is_one_category};
@@ -19,7 +20,7 @@ fn slot_of(pattern: Pattern) -> Option<Category>
 
 /// The category of a row at a place, if it has a type there.
 pub fn slot_at(place: usize, row: &Row) -> Option<Category>
-    ensures { result ≡ slot_at place row.now }
+    ensures { result ≡ slot_at place (entry_of row.now) }
 {
     match row.inputs.get(place) {
         Some(&pattern) => slot_of(pattern),
@@ -50,7 +51,7 @@ fn prefers(pattern: Pattern) -> bool
 
 /// Whether a row has the preferred type of its category at a place.
 pub fn prefers_at(place: usize, row: &Row) -> bool
-    ensures { result ≡ prefers_at place row.now }
+    ensures { result ≡ prefers_at place (entry_of row.now) }
 {
     match row.inputs.get(place) {
         Some(&pattern) => prefers(pattern),

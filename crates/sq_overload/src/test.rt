@@ -1,6 +1,7 @@
 //! The tests of rows by which resolution narrows them down.
 
-ghost use Rattle.std.specs.Prelude.{◌≡◌, Some};
+ghost use Rattle.std.specs.Prelude.{◌≡◌};
+ghost use Rattle.sq_builtin.specs.Entries.{entry_of};
 ghost use Rattle.sq_overload.specs.Masks.{passes};
 ghost use Rattle.sq_overload.specs.Resolution.{is_alike};
 
@@ -26,14 +27,14 @@ pub enum Test {
 
 // Whether a row is a binary operator's that is exact with a type on both sides.
 fn is_alike(of: PgType, row: &Row) -> bool
-    ensures { result ≡ is_alike (Some of) row.now }
+    ensures { result ≡ is_alike of (entry_of row.now) }
 {
     matches!(row.kind, Kind::Operator) && all_fit(Fit::Exact, row.inputs, &[of, of])
 }
 
 /// Whether a row passes a test.
 pub fn passes(args: &[PgType], test: Test, row: &Row) -> bool
-    ensures { result ≡ passes args.now test row.now }
+    ensures { result ≡ passes args.now test (entry_of row.now) }
 {
     match test {
         Test::Fitting(fit) => all_fit(fit, row.inputs, args),

@@ -2,6 +2,7 @@ pub mod Asked
 pub mod Deliver
 pub mod Each
 pub mod Findings
+pub mod Folds
 pub mod Halts
 pub mod Lines
 pub mod Options

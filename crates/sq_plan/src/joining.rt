@@ -17,11 +17,11 @@ pub fn append<T: Drop>(items: &mut List<T>, more: List<T>) -> Result<(), AllocEr
     Ok(())
 }
 
-/// What was judged so far, or findings.
-pub type SoFar<T> = Result<List<T>, List<Finding>>;
+/// What parts were judged to be together, or the findings of all.
+pub type Joined<T> = Result<List<T>, List<Finding>>;
 
 /// What a part has come to, unless it halts the run.
-fn come_to<T: Drop>(part: Result<List<T>, Halt>) -> Result<SoFar<T>, Halt>
+fn come_to<T: Drop>(part: Result<List<T>, Halt>) -> Result<Joined<T>, Halt>
     ensures { Comes part result }
 {
     match part {
@@ -34,7 +34,7 @@ fn come_to<T: Drop>(part: Result<List<T>, Halt>) -> Result<SoFar<T>, Halt>
 }
 
 /// Items with those of the next part, or its findings.
-fn joined_items<T: Drop>(items: List<T>, after: SoFar<T>) -> Result<SoFar<T>, AllocError>
+fn joined_items<T: Drop>(items: List<T>, after: Joined<T>) -> Result<Joined<T>, AllocError>
     ensures { IfOk result (λ both. both ≡ joined (Ok items) after) }
 {
     let more = match after {
@@ -49,8 +49,8 @@ fn joined_items<T: Drop>(items: List<T>, after: SoFar<T>) -> Result<SoFar<T>, Al
 /// Findings with those of the next part.
 fn joined_findings<T: Drop>(
     findings: List<Finding>,
-    after: SoFar<T>,
-) -> Result<SoFar<T>, AllocError>
+    after: Joined<T>,
+) -> Result<Joined<T>, AllocError>
     ensures { IfOk result (λ both. both ≡ joined (Err findings) after) }
 {
     let more = match after {
@@ -63,7 +63,7 @@ fn joined_findings<T: Drop>(
 }
 
 /// What two parts give, or the findings of both.
-fn joined<T: Drop>(before: SoFar<T>, after: SoFar<T>) -> Result<SoFar<T>, AllocError>
+fn joined<T: Drop>(before: Joined<T>, after: Joined<T>) -> Result<Joined<T>, AllocError>
     ensures { IfOk result (λ both. both ≡ joined before after) }
 {
     match before {
@@ -73,7 +73,7 @@ fn joined<T: Drop>(before: SoFar<T>, after: SoFar<T>) -> Result<SoFar<T>, AllocE
 }
 
 /// Joins what was judged so far with what a part has come to.
-pub fn join<T: Drop>(so_far: SoFar<T>, part: Result<List<T>, Halt>) -> Result<SoFar<T>, Halt>
+pub fn join<T: Drop>(so_far: Joined<T>, part: Result<List<T>, Halt>) -> Result<Joined<T>, Halt>
     ensures { Joins so_far part result }
 {
     let answer = come_to(part)?;
@@ -84,7 +84,7 @@ pub fn join<T: Drop>(so_far: SoFar<T>, part: Result<List<T>, Halt>) -> Result<So
 }
 
 /// How a run ends for what was judged.
-pub fn ending<T: Drop>(judged: SoFar<T>) -> Result<List<T>, Halt>
+pub fn ending<T: Drop>(judged: Joined<T>) -> Result<List<T>, Halt>
     ensures { result ≡ ended_with judged (Ok []) }
 {
     match judged {

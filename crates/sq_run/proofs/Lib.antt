@@ -2,6 +2,7 @@ pub mod BlocksApart
 pub mod Calls
 pub mod Causes
 pub mod Cuts
+pub mod Declared
 pub mod FileNames
 pub mod FirstTypes
 pub mod FoldersApart

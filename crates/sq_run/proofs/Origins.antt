@@ -17,7 +17,7 @@ use Rattle.sq_core.specs.declared.node.Node.{Node}
 use Rattle.sq_shown.specs.declared.signature.Output.{Output as OutputColumn}
 use Rattle.sq_lexer.specs.Printed.{printed}
 use Rattle.sq_lexer.specs.TokenList.{token_list}
-use Rattle.sq_migrate.specs.Kept.{IsCatalogue}
+use Rattle.sq_catalog.specs.Kept.{IsCatalogue}
 use Rattle.sq_migrate.specs.Replay.{replayed}
 use Rattle.sq_syntax.specs.declared.ddl.Ddl.{Ddl}
 use Rattle.sq_syntax.specs.declared.token.Token.{Token}
@@ -32,7 +32,15 @@ use Rattle.sq_run.specs.declared.statements.Select.{Select}
 use Rattle.sq_run.specs.Judged.{judged, judged_names, judged_select, model_used, unknown}
 use Rattle.sq_base.specs.declared.limits.TheConstants.{MOST_FILE_BYTES}
 use Rattle.sq_run.specs.declared.sources.SourceFile.{SourceFile}
-use Rattle.sq_run.specs.Schema.{Made, made, read_ddl, replay_of, statements, without_notes, after_read, after_statement, after_statements, after_file, after_files, all_made, has_first_types, has_enums, has_domains, is_built, catalogue_by, catalogue_of}
+use Rattle.sq_base.specs.Tree.{TreeState}
+use Rattle.sq_plan.specs.declared.entries.Purpose.TheVariants.{Schema}
+use Rattle.sq_plan.specs.declared.halt.Halt.{Halt}
+use Rattle.sq_plan.specs.Asked.{Follows, Judges, nothing_asked}
+use Rattle.sq_plan.specs.Folds.{so_far, Makes}
+use Rattle.sq_run.specs.Project.{sources, schema_read}
+use Rattle.sq_plan.specs.declared.so_far.SoFar.{SoFar}
+use Rattle.sq_plan.proofs.Folds.{folded_keeps, made_then, made_stopped}
+use Rattle.sq_run.specs.Schema.{read_ddl, replay_of, statements, without_notes, after_read, after_statement, after_file, all_made, has_first_types, has_enums, has_domains, is_built, catalogue_by, catalogue_of}
 use Rattle.sq_run.specs.Names.{is_identifier}
 use Rattle.sq_run.specs.Query.{behind, before_end, query_name, noted_name, annotation, annotated, named_statement, query_in, query_of}
 use Rattle.sq_run.specs.Statements.{one_statement, select}
@@ -59,6 +67,17 @@ all_read purpose held (path ∷ paths) (file ∷ files) from =
     let read = bytes_read purpose one.bytes in
     (record { number = one.number; bytes = read; listed = one.listed; small = omega (arith, list_size one.number read file.tokens one.listed, bytes_read_size purpose one.bytes, one.fits) }, all_read purpose held paths files from.1)
 
+-- the catalogue of a schema that was read
+pub schema_then : (path : List ℕ) (paths : List (List ℕ)) (start : SoFar Contents) (old new : TreeState) (done : SoFar Contents) (r : Result Contents Halt)
+    → start ≡ so_far empty [] → Makes after_file start (sources Schema paths) old new (Ok done) → Judges (catalogue_by path done.made done.found) r → Follows (schema_read path paths) old new r
+schema_then path paths start old new done r begins makes judges =
+    made_then after_file (so_far empty []) (sources Schema paths) old new done (λ (d : SoFar Contents). catalogue_by path d.made d.found) r
+    (subst (λ (s : SoFar Contents). Makes after_file s (sources Schema paths) old new (Ok done)) begins makes) judges
+
+pub schema_stopped : (path : List ℕ) (paths : List (List ℕ)) (start : SoFar Contents) (old new : TreeState) (halt : Halt)
+    → Makes after_file start (sources Schema paths) old new (Err halt) → Follows (schema_read path paths) old new (Err halt)
+schema_stopped path paths start old new halt makes = made_stopped after_file start (sources Schema paths) (λ schema _. nothing_asked (catalogue_of path schema)) old new halt makes
+
 -- the catalogue keeps its rules, and its columns have the types whose forms are built
 pub record FromSchema (contents : Contents) : Type 0 where
   pub kept : IsCatalogue contents
@@ -84,29 +103,27 @@ built_first contents is = by_kinds (has_enums contents) (has_domains contents) i
 
 -- what a replay keeps is kept by what is made of a schema
 module _ (replay_keeps : (c : Contents) (statements : List Ddl) → IsCatalogue c → IsCatalogue (replayed c statements).catalogue) where
-  statement_keeps : (path : List ℕ) (so_far : Made) (tokens : List Token) → IsCatalogue so_far.contents → IsCatalogue (after_statement path so_far tokens).contents
+  abbrev Keeps : SoFar Contents → Type 0
+  Keeps done = IsCatalogue done.made
+
+  statement_keeps : (path : List ℕ) (done : SoFar Contents) (tokens : List Token) → Keeps done → Keeps (after_statement path done tokens)
   unfolding replay_of
-  statement_keeps path so_far [] kept = kept
-  statement_keeps path so_far (token ∷ tokens) kept = by_read (read_ddl (token ∷ tokens))
+  statement_keeps path done [] kept = kept
+  statement_keeps path done (token ∷ tokens) kept = by_read (read_ddl (token ∷ tokens))
     where
-      by_read : (read : Result (Option Ddl) Refusal) → IsCatalogue (after_read path so_far read).contents
+      by_read : (read : Result (Option Ddl) Refusal) → Keeps (after_read path done read)
       by_read (Ok None) = kept
-      by_read (Ok (Some statement)) = replay_keeps so_far.contents (statement ∷ []) kept
+      by_read (Ok (Some statement)) = replay_keeps done.made (statement ∷ []) kept
       by_read (Err refused) = kept
 
-  statements_keep : (path : List ℕ) (so_far : Made) (statements : List (List Token)) → IsCatalogue so_far.contents → IsCatalogue (after_statements path so_far statements).contents
-  statements_keep path so_far [] kept = kept
-  statements_keep path so_far (s ∷ statements) kept = statements_keep path (after_statement path so_far s) statements (statement_keeps path so_far s kept)
-
-  files_keep : (so_far : Made) (files : List SourceFile) → IsCatalogue so_far.contents → IsCatalogue (after_files so_far files).contents
-  files_keep so_far [] kept = kept
-  files_keep so_far (file ∷ files) kept = files_keep (after_file so_far file) files (statements_keep file.path so_far (statements (without_notes file.tokens)) kept)
+  file_keeps : (done : SoFar Contents) (file : SourceFile) → Keeps done → Keeps (after_file done file)
+  file_keeps done file kept = folded_keeps Keeps (after_statement file.path) (statement_keeps file.path) done (statements (without_notes file.tokens)) kept
 
   pub schema_from : IsCatalogue empty → (path : List ℕ) (schema : List SourceFile) (contents : Contents) → catalogue_of path schema ≡ Ok contents → FromSchema contents
   schema_from empty_kept path schema contents is =
-      let made_of = all_made schema in
-      let ok = catalogue_ok path made_of.contents contents made_of.findings is in
-      subst FromSchema ok.0 (record { kept = files_keep (made empty []) schema empty_kept; first = built_first made_of.contents ok.1 })
+      let all = all_made schema in
+      let ok = catalogue_ok path all.made contents all.found is in
+      subst FromSchema ok.0 (record { kept = folded_keeps Keeps after_file file_keeps (so_far empty []) schema empty_kept; first = built_first all.made ok.1 })
 
 -- the parts of a query's file
 pub record FromText (tokens : List Token) (query : Query) : Type 0 where

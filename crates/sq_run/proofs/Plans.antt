@@ -16,8 +16,6 @@ use Rattle.sq_shown.specs.declared.declaration.QueryFile.{QueryFile}
 use Rattle.sq_lexer.specs.TokenList.{token_list}
 use Rattle.sq_syntax.specs.declared.token.Token.{Token}
 use Rattle.sq_plan.specs.declared.halt.Finding.{Finding}
-use Rattle.sq_run.specs.declared.judge.Judged.{Judged}
-use Rattle.sq_run.specs.declared.query.Query.{Query}
 use Rattle.sq_config.specs.declared.command_line.Task.TheVariants.{Generate}
 use Rattle.sq_config.specs.declared.configuration.Block.{Block}
 use Rattle.sq_config.specs.declared.configuration.Configuration.{Configuration as Configured}
@@ -40,13 +38,11 @@ use Rattle.sq_config.specs.Meaning.{meaning_of}
 use Rattle.sq_config.specs.Outs.{all_entries, same_out, other_writer}
 use Rattle.sq_config.specs.Shape.{bad_key}
 use Rattle.sq_config.specs.Paths.{folder_of}
-use Rattle.sq_run.specs.Judged.{judged}
 use Rattle.sq_plan.specs.Reading.{checked, whole_file, listed}
 use Rattle.sq_plan.specs.Outputs.{output_by, output_of_entry}
-use Rattle.sq_run.specs.Project.{unless_more, counted, with_tokens, source, sources, configured_by, configured, configuration_at, catalogue_of, models_of, file_with, file_by, file_of, file_read, file_named, declared_in, output_files, written, block_files, all_files, requested}
-use Rattle.sq_run.specs.Parsed.{statement_check}
-use Rattle.sq_run.specs.Query.{named_statement, query_in, query_of}
+use Rattle.sq_run.specs.Project.{unless_more, counted, with_tokens, source, sources, configured_by, configured, configuration_at, catalogue_of, models_of, output_files, written, schema_read, queries_read, block_files, all_files, requested}
 use Rattle.sq_plan.specs.Sources.{found_at, found_for, bytes_read}
+use Rattle.sq_run.proofs.Declared.{FromQuery, queries_ok}
 use Rattle.sq_run.proofs.OkSteps.{and_then_ok, Gathered, gathered_ok, EachOk, each_ok}
 
 same_answer : {A : Type 0} (r : Result A (List Finding)) (x y : A) → r ≡ Ok x → r ≡ Ok y → x ≡ y
@@ -145,45 +141,6 @@ entries_ok path (entry ∷ entries) outputs each =
     let all : outputs ≡ first.0 ∷ each.1 = each.3 ∙ ap (λ (own : List Output). own ++ each.1) first.1 in
     subst (AllZip FromEntry (entry ∷ entries)) (sym all) (first.2, entries_ok path entries each.1 each.4)
 
--- what a source of queries was judged to be
-pub record FromQuery (contents : Contents) (file : SourceFile) (written : QueryFile) : Type 0 where
-  pub query : Query
-  pub annotated : query_of file.tokens ≡ Some query
-  pub found : Judged
-  pub judges : judged contents query.select ≡ Ok found
-  pub is : written ≡ file_with file.path query found
-
--- the query of a file is that of its named statement
-query_named : (tokens : List Token) (found : List ℕ × List Token) → named_statement tokens ≡ Some found → query_of tokens ≡ query_in found.0 found.1
-unfolding query_of
-query_named tokens found there = rw there refl
-
-query_ok : (contents : Contents) (file : SourceFile) (own : List QueryFile) → declared_in contents file ≡ Ok own → (written : QueryFile) × (own ≡ written ∷ []) × FromQuery contents file written
-query_ok contents file own is = by_named (named_statement file.tokens) refl is
-  where
-    by_judged : (query : Query) → query_of file.tokens ≡ Some query → (answer : Result Judged Refusal) → judged contents query.select ≡ answer → file_by file.path query answer ≡ Ok own → (written : QueryFile) × (own ≡ written ∷ []) × FromQuery contents file written
-    by_judged query there (Err refusal) judges is = absurd (cc is)
-    by_judged query there (Ok found) judges is = (file_with file.path query found, sym (same_answer _ _ _ refl is), record { query = query; annotated = there; found = found; judges = judges; is = refl })
-
-    by_query : (found : Option Query) → query_of file.tokens ≡ found → file_of contents file.path found ≡ Ok own → (written : QueryFile) × (own ≡ written ∷ []) × FromQuery contents file written
-    by_query None there is = absurd (cc is)
-    by_query (Some query) there is = by_judged query there (judged contents query.select) refl is
-
-    by_read : (found : List ℕ × List Token) → query_of file.tokens ≡ query_in found.0 found.1 → (read : Result (Unit {0}) Refusal) → file_read contents file.path (query_in found.0 found.1) read ≡ Ok own → (written : QueryFile) × (own ≡ written ∷ []) × FromQuery contents file written
-    by_read found there (Err refusal) is = absurd (cc is)
-    by_read found there (Ok read) is = by_query (query_in found.0 found.1) there is
-
-    by_named : (found : Option (List ℕ × List Token)) → named_statement file.tokens ≡ found → file_named contents file.path found ≡ Ok own → (written : QueryFile) × (own ≡ written ∷ []) × FromQuery contents file written
-    by_named None there is = absurd (cc is)
-    by_named (Some found) there is = by_read found (query_named file.tokens found there) (statement_check found.1) is
-
-pub queries_ok : (contents : Contents) (files : List SourceFile) (written : List QueryFile) → EachOk (declared_in contents) files written → AllZip (FromQuery contents) files written
-queries_ok contents [] written is = subst (AllZip (FromQuery contents) []) (sym is) tt
-queries_ok contents (file ∷ files) written each =
-    let first = query_ok contents file each.0 each.2 in
-    let all : written ≡ first.0 ∷ each.1 = each.3 ∙ ap (λ (own : List QueryFile). own ++ each.1) first.1 in
-    subst (AllZip (FromQuery contents) (file ∷ files)) (sym all) (first.2, queries_ok contents files each.1 each.4)
-
 -- what was laid out for an output
 pub written_ok : (path : List ℕ) (models : List ModelDecl) (queries : List QueryFile) (output : Output) (files : List File) → written path models queries output ≡ Ok files → (clash models queries ≡ false) × (files ≡ output_files output models queries)
 written_ok path models queries output files is = elim (cases_Bool (clash models queries)) [
@@ -209,10 +166,10 @@ pub record FromBlock (path : List ℕ) (block : Block) (held files : List File) 
 pub block_from : (path : List ℕ) (block : Block) (held files : List File) → (block_files path block held).answer ≡ Some (Ok files) → FromBlock path block held files
 block_from path block held files is =
     let a = and_then_ok (nothing_asked (each_judged (output_of_entry path) block.entries)) _ files is in
-    let b = and_then_ok (sources Schema block.schema held) _ files a.2 in
-    let c = and_then_ok (nothing_asked (catalogue_of path b.0)) _ files b.2 in
-    let d = and_then_ok (sources Queries block.queries held) _ files c.2 in
-    let e = and_then_ok (nothing_asked (each_judged (declared_in c.0) d.0)) _ files d.2 in
+    let c = and_then_ok (schema_read path block.schema held) _ files a.2 in
+    let b = and_then_ok (sources Schema block.schema held) _ c.0 c.1 in
+    let e = and_then_ok (queries_read c.0 block.queries held) _ files c.2 in
+    let d = and_then_ok (sources Queries block.queries held) _ e.0 e.1 in
     record {
       outputs = a.0;
       has_outputs = same_Some _ _ a.1;
@@ -220,11 +177,11 @@ block_from path block held files is =
       schema = b.0;
       schema_held = sources_ok Schema held block.schema b.0 b.1;
       contents = c.0;
-      replays = same_Some _ _ c.1;
+      replays = same_Some _ _ b.2;
       queries = d.0;
       queries_held = sources_ok Queries held block.queries d.0 d.1;
       declared = e.0;
-      judges = queries_ok c.0 d.0 e.0 (each_ok (declared_in c.0) d.0 e.0 (same_Some _ _ e.1));
+      judges = queries_ok c.0 d.0 e.0 (same_Some _ _ d.2);
       laid_out = each_ok (written path (models_of c.0) e.0) a.0 files (same_Some _ _ e.2);
     }
 

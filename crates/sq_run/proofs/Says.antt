@@ -32,7 +32,7 @@ use Rattle.sq_shown.specs.declared.signature.Output.{Output as OutputColumn}
 use Rattle.sq_shown.specs.declared.signature.Param.{Param}
 use Rattle.sq_shown.specs.declared.signature.Shown.{Shown}
 use Rattle.sq_shown.specs.declared.signature.ShownField.{ShownField}
-use Rattle.sq_migrate.specs.Kept.{IsCatalogue, IsTable, table_ids, are_apart}
+use Rattle.sq_catalog.specs.Kept.{IsCatalogue, IsTable, table_ids, are_apart}
 use Rattle.sq_migrate.specs.Replay.{replayed}
 use Rattle.sq_reader.specs.Readable.{IsReadable, IsReadableModel, IsReadableQuery, IsReadableFile, model_with, is_run}
 use Rattle.sq_reader.specs.Items.{fields_stand}
@@ -57,7 +57,7 @@ use Rattle.sq_run.proofs.Models.{ComesFrom, names_size, names_come, some_outputs
 use Rattle.sq_run.proofs.Placeless.{same_judged}
 use Rattle.sq_run.proofs.FileNames.{IsApart, files_apart, is_slash, no_last_part, no_slash}
 use Rattle.sq_run.proofs.Origins.{IsRead, FromSchema, FromText, FromTable, query_from, table_from}
-use Rattle.sq_run.proofs.Plans.{FromQuery}
+use Rattle.sq_run.proofs.Declared.{FromQuery}
 use Rattle.sq_run.proofs.Readables.{HasFirstForms, columns_form, all_fields_form, fields_spelled, models_stand, own_stands, row_spelled, word_run}
 use Rattle.sq_run.proofs.Simple.{query_simple, query_unmarked}
 

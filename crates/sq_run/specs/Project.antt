@@ -20,7 +20,9 @@ use Rattle.sq_shown.specs.declared.signature.Command.TheVariants.{Many}
 use Rattle.sq_lexer.specs.TokenList.{token_list}
 use Rattle.sq_syntax.specs.declared.token.Token.{Token}
 use Rattle.sq_plan.specs.declared.halt.Finding.{Finding}
-use Rattle.sq_plan.specs.Findings.{in_source, of_whole}
+use Rattle.sq_plan.specs.Findings.{in_source, of_whole, start}
+use Rattle.sq_plan.specs.Folds.{so_far, folded, unless_found}
+use Rattle.sq_plan.specs.declared.so_far.SoFar.{SoFar}
 use Rattle.sq_plan.specs.declared.halt.Ending.{Ending}
 use Rattle.sq_plan.specs.declared.halt.Ending.TheVariants.{Usage, Judged}
 use Rattle.sq_run.specs.declared.judge.Judged.{Judged as JudgedQuery}
@@ -73,12 +75,13 @@ with_tokens path (Err refusal) = Err (in_source path refusal ∷ [])
 abbrev pub source : Purpose → ℕ → List ℕ → List File → Asked (List SourceFile)
 source purpose number path files = and_then (whole_file Source path files) (λ bytes. nothing_asked (with_tokens path (token_list number (bytes_read purpose bytes))))
 
+-- reads the files of a key, unless they are too many
+abbrev pub sources_found : Purpose → List (List ℕ) → List File → Asked (List SourceFile)
+sources_found purpose found files = and_then (nothing_asked (counted found)) (λ few. gathered (source purpose) 0 few files)
+
 -- lists the paths of a key, and then reads the files that they stand for
 abbrev pub sources : Purpose → List (List ℕ) → List File → Asked (List SourceFile)
-sources purpose paths files =
-    and_then (gathered (λ _ path. listed purpose path) 0 paths files) (λ found.
-    and_then (nothing_asked (counted found)) (λ few.
-    gathered (source purpose) 0 few files))
+sources purpose paths files = and_then (gathered (λ _ path. listed purpose path) 0 paths files) (λ found. sources_found purpose found files)
 
 -- CONFIGURATION
 
@@ -105,6 +108,8 @@ models_of contents = map model_of contents.tables
 abbrev pub file_name : List ℕ → List ℕ
 file_name path = drop (length (folder_of path)) path
 
+-- QUERIES
+
 -- the declaration of a judged query
 abbrev pub declared : Query → JudgedQuery → QuerySig
 declared query judged = record {
@@ -112,33 +117,58 @@ declared query judged = record {
   model = judged.model;
 }
 
--- a file of queries at a path, with this one
-abbrev pub file_with : List ℕ → Query → JudgedQuery → QueryFile
-file_with path query judged = record { source = file_name path; queries = declared query judged ∷ [] }
+-- a form that isn't built yet is refused where its file begins
+abbrev pub not_built : Refusal
+not_built = refused code.NotYet start
 
--- the file of queries with what a query is judged to be
-abbrev pub file_by : List ℕ → Query → Result JudgedQuery Refusal → Result (List QueryFile) (List Finding)
-file_by path query (Ok judged) = Ok (file_with path query judged ∷ [])
-file_by path query (Err refusal) = Err (in_source path refusal ∷ [])
+-- a query with what it is judged to be
+abbrev pub declared_by : Query → Result JudgedQuery Refusal → Result QuerySig Refusal
+declared_by query (Ok judged) = Ok (declared query judged)
+declared_by query (Err refusal) = Err refusal
 
--- the file of queries with the query that was read
-abbrev pub file_of : Contents → List ℕ → Option Query → Result (List QueryFile) (List Finding)
-file_of contents path (Some query) = file_by path query (judged contents query.select)
-file_of contents path None = Err (not_yet Source path ∷ [])
+-- a query that was read is judged over the catalogue
+abbrev pub judged_query : Contents → Option Query → Result QuerySig Refusal
+judged_query contents (Some query) = declared_by query (judged contents query.select)
+judged_query contents None = Err not_built
 
--- the file of queries with what its statement is, where this is read
-abbrev pub file_read : Contents → List ℕ → Option Query → Result (Unit {0}) Refusal → Result (List QueryFile) (List Finding)
-file_read contents path query (Ok read) = file_of contents path query
-file_read contents path query (Err refusal) = Err (in_source path refusal ∷ [])
+-- a statement is read whole before its query
+abbrev pub judged_read : Contents → Option Query → Result (Unit {0}) Refusal → Result QuerySig Refusal
+judged_read contents query (Ok read) = judged_query contents query
+judged_read contents query (Err refusal) = Err refusal
 
--- the file of queries with its one named statement
-abbrev pub file_named : Contents → List ℕ → Option (List ℕ × List Token) → Result (List QueryFile) (List Finding)
-file_named contents path (Some found) = file_read contents path (query_in found.0 found.1) (statement_check found.1)
-file_named contents path None = Err (not_yet Source path ∷ [])
+-- what an annotated statement is judged to be, over the catalogue; None stands for a file of another form
+abbrev pub judged_statement : Contents → Option (List ℕ × List Token) → Result QuerySig Refusal
+judged_statement contents (Some found) = judged_read contents (query_in found.0 found.1) (statement_check found.1)
+judged_statement contents None = Err not_built
 
--- what a source of queries is judged to be, over the catalogue
-abbrev pub declared_in : Contents → SourceFile → Result (List QueryFile) (List Finding)
-declared_in contents file = file_named contents file.path (named_statement file.tokens)
+-- a query was judged: what is refused is left out, and listed
+abbrev pub after_judged : List ℕ → SoFar (List QuerySig) → Result QuerySig Refusal → SoFar (List QuerySig)
+after_judged path done (Ok query) = so_far (done.made ++ query ∷ []) done.found
+after_judged path done (Err refusal) = so_far done.made (done.found ++ in_source path refusal ∷ [])
+
+-- an annotated statement of a file
+abbrev pub after_query : Contents → List ℕ → SoFar (List QuerySig) → Option (List ℕ × List Token) → SoFar (List QuerySig)
+after_query contents path done found = after_judged path done (judged_statement contents found)
+
+-- the annotated statements of a file: so far it has one, and nothing else
+abbrev pub annotated_in : List Token → List (Option (List ℕ × List Token))
+annotated_in tokens = named_statement tokens ∷ []
+
+-- the queries of a file, in order, after what was found before
+abbrev pub queries_in : Contents → SourceFile → List Finding → SoFar (List QuerySig)
+queries_in contents file found = folded (after_query contents file.path) (so_far [] found) (annotated_in file.tokens)
+
+-- a file with its queries is behind those before it
+abbrev pub with_file : List QueryFile → List ℕ → SoFar (List QuerySig) → SoFar (List QueryFile)
+with_file files path own = so_far (files ++ record { source = file_name path; queries = own.made } ∷ []) own.found
+
+-- a file: its queries, in order
+abbrev pub after_queries : Contents → SoFar (List QueryFile) → SourceFile → SoFar (List QueryFile)
+after_queries contents done file = with_file done.made file.path (queries_in contents file done.found)
+
+-- what the files of queries are judged to be, over the catalogue
+abbrev pub declared_in : Contents → List SourceFile → Result (List QueryFile) (List Finding)
+declared_in contents files = unless_found (folded (after_queries contents) (so_far [] []) files)
 
 -- FILES
 
@@ -160,15 +190,26 @@ written path models queries output = if clash models queries then Err (not_yet C
 abbrev pub configuration_at : List ℕ → List File → Asked (List Block)
 configuration_at path files = and_then (whole_file Configuration path files) (λ bytes. nothing_asked (configured path bytes))
 
+-- reads a schema and replays it
+abbrev pub schema_read : List ℕ → List (List ℕ) → List File → Asked Contents
+schema_read path paths files = and_then (sources Schema paths files) (λ schema. nothing_asked (catalogue_of path schema))
+
+-- reads files of queries and judges them over a catalogue
+abbrev pub queries_read : Contents → List (List ℕ) → List File → Asked (List QueryFile)
+queries_read contents paths files = and_then (sources Queries paths files) (λ queries. nothing_asked (declared_in contents queries))
+
+-- the files of the outputs, after a catalogue and outputs: reads the queries
+abbrev pub files_over : List ℕ → Block → List Output → Contents → List File → Asked (List File)
+files_over path block outputs contents files =
+    and_then (queries_read contents block.queries files) (λ queries. nothing_asked (each_judged (written path (models_of contents) queries) outputs))
+
+-- the files of these outputs: reads the schema, and then the queries
+abbrev pub files_for : List ℕ → Block → List Output → List File → Asked (List File)
+files_for path block outputs files = and_then (schema_read path block.schema files) (λ contents. files_over path block outputs contents files)
+
 -- reads a block and judges it, up to the files of its outputs
 abbrev pub block_files : List ℕ → Block → List File → Asked (List File)
-block_files path block files =
-    and_then (nothing_asked (each_judged (output_of_entry path) block.entries)) (λ outputs.
-    and_then (sources Schema block.schema files) (λ schema.
-    and_then (nothing_asked (catalogue_of path schema)) (λ contents.
-    and_then (sources Queries block.queries files) (λ queries.
-    and_then (nothing_asked (each_judged (declared_in contents) queries)) (λ declared.
-    nothing_asked (each_judged (written path (models_of contents) declared) outputs))))))
+block_files path block files = and_then (nothing_asked (each_judged (output_of_entry path) block.entries)) (λ outputs. files_for path block outputs files)
 
 -- reads all blocks, one after the other, and judges them
 abbrev pub all_files : List ℕ → List Block → List File → Asked (List File)
@@ -179,12 +220,13 @@ abbrev pub put_by : Task → List File → List File
 put_by Generate files = files
 put_by Compile files = []
 
--- reads the configuration and its blocks, and puts their files or none
+-- reads these blocks, and puts their files or none
+abbrev pub done_for : Request → List Block → List File → Asked (List File)
+done_for request blocks files = and_then (all_files request.path blocks files) (λ made. nothing_asked (Ok (put_by request.task made)))
+
+-- reads the configuration, and then its blocks
 abbrev pub requested : Request → List File → Asked (List File)
-requested request files =
-    and_then (configuration_at request.path files) (λ blocks.
-    and_then (all_files request.path blocks files) (λ made.
-    nothing_asked (Ok (put_by request.task made))))
+requested request files = and_then (configuration_at request.path files) (λ blocks. done_for request blocks files)
 
 -- the task that the words name, where they are those of a command
 abbrev pub task_asked : List (List ℕ) → Option Task

@@ -23,6 +23,8 @@ use Rattle.sq_syntax.specs.declared.ddl.Ddl.{Ddl}
 use Rattle.sq_syntax.specs.declared.token.Token.{Token}
 use Rattle.sq_plan.specs.declared.halt.Finding.{Finding}
 use Rattle.sq_plan.specs.Findings.{in_source, of_whole}
+use Rattle.sq_plan.specs.Folds.{so_far, folded}
+use Rattle.sq_plan.specs.declared.so_far.SoFar.{SoFar}
 use Rattle.sq_run.specs.declared.sources.SourceFile.{SourceFile}
 use Rattle.sq_run.specs.Statements.{is_end, is_no_note}
 
@@ -57,50 +59,32 @@ read_ddl tokens = if passed_over (map lexeme tokens) then Ok None else read_with
 unfoldable pub replay_of : Contents → Ddl → Replayed
 replay_of contents statement = replayed contents (statement ∷ [])
 
--- what has been made so far, and what was refused
-pub record Made : Type 0 where
-  pub contents : Contents
-  pub findings : List Finding
-
-abbrev pub made : Contents → List Finding → Made
-made contents findings = record { contents = contents; findings = findings }
-
 -- refusals in the file at a path
 abbrev pub found_at : List ℕ → List Refusal → List Finding
 found_at path refusals = map (λ refusal. in_source path refusal) refusals
 
 -- a statement was replayed
-abbrev pub after_replay : List ℕ → List Finding → Replayed → Made
-after_replay path findings done = made done.catalogue (findings ++ found_at path done.refusals)
+abbrev pub after_replay : List ℕ → List Finding → Replayed → SoFar Contents
+after_replay path found done = so_far done.catalogue (found ++ found_at path done.refusals)
 
 -- what was read is replayed; what is refused is left out, and listed
-abbrev pub after_read : List ℕ → Made → Result (Option Ddl) Refusal → Made
-after_read path so_far (Ok None) = so_far
-after_read path so_far (Ok (Some statement)) = after_replay path so_far.findings (replay_of so_far.contents statement)
-after_read path so_far (Err refused) = made so_far.contents (so_far.findings ++ found_at path (refused ∷ []))
+abbrev pub after_read : List ℕ → SoFar Contents → Result (Option Ddl) Refusal → SoFar Contents
+after_read path done (Ok None) = done
+after_read path done (Ok (Some statement)) = after_replay path done.found (replay_of done.made statement)
+after_read path done (Err refused) = so_far done.made (done.found ++ in_source path refused ∷ [])
 
 -- a statement of a file; one without a token is passed over
-abbrev pub after_statement : List ℕ → Made → List Token → Made
-after_statement path so_far [] = so_far
-after_statement path so_far (token ∷ tokens) = after_read path so_far (read_ddl (token ∷ tokens))
+abbrev pub after_statement : List ℕ → SoFar Contents → List Token → SoFar Contents
+after_statement path done [] = done
+after_statement path done (token ∷ tokens) = after_read path done (read_ddl (token ∷ tokens))
 
--- the statements of a file, in order
-abbrev pub after_statements : List ℕ → Made → List (List Token) → Made
-after_statements path so_far [] = so_far
-after_statements path so_far (statement ∷ later) = after_statements path (after_statement path so_far statement) later
+-- a file: its statements, in order
+abbrev pub after_file : SoFar Contents → SourceFile → SoFar Contents
+after_file done file = folded (after_statement file.path) done (statements (without_notes file.tokens))
 
--- a file
-abbrev pub after_file : Made → SourceFile → Made
-after_file so_far file = after_statements file.path so_far (statements (without_notes file.tokens))
-
--- files, in order
-abbrev pub after_files : Made → List SourceFile → Made
-after_files so_far [] = so_far
-after_files so_far (file ∷ files) = after_files (after_file so_far file) files
-
--- all files of a schema
-abbrev pub all_made : List SourceFile → Made
-all_made schema = after_files (made empty []) schema
+-- all files of a schema, in order
+abbrev pub all_made : List SourceFile → SoFar Contents
+all_made schema = folded after_file (so_far empty []) schema
 
 -- WHAT IS BUILT SO FAR
 
@@ -138,4 +122,4 @@ catalogue_by path contents (finding ∷ findings) = Err (finding ∷ findings)
 
 -- what a schema is judged to be, of a block in the configuration at this path
 abbrev pub catalogue_of : List ℕ → List SourceFile → Result Contents (List Finding)
-catalogue_of path schema = catalogue_by path (all_made schema).contents (all_made schema).findings
+catalogue_of path schema = catalogue_by path (all_made schema).made (all_made schema).found

@@ -6,7 +6,7 @@ ghost use Rattle.sq_plan.specs.Asked.{Follows, Judges};
 ghost use Rattle.sq_plan.specs.Deliver.{files_of};
 ghost use Rattle.sq_plan.specs.Findings.{of_whole};
 ghost use Rattle.sq_plan.specs.Halts.{IsRefusalOf};
-ghost use Rattle.sq_run.specs.Project.{configured, configuration_at, put_by, requested, is_command, task_asked, Judging};
+ghost use Rattle.sq_run.specs.Project.{configured, configuration_at, done_for, put_by, requested, is_command, task_asked, Judging};
 
 use crate::blocks::judge_configured;
 use sq_base::{File, List, Name, Refusal, Tree};
@@ -57,6 +57,21 @@ fn put_by(alloc: Global, task: Task, files: List<File>) -> List<File>
     }
 }
 
+/// Does the task for these blocks of the configuration at a path, up to the files that are to be put.
+fn judge_task<T: Tree>(
+    alloc: Global,
+    tree: &mut T,
+    task: Task,
+    path: &str,
+    blocks: &List<Block>,
+) -> Result<List<File>, Halt>
+    ensures follows { Follows (done_for (record { task = task; path = path.now }) blocks.now) (T.state tree.old) (T.state tree.new) result }
+    ensures compiling { IfOk result (λ files. task ≡ Compile → files ≡ []) }
+{
+    let files = judge_configured(alloc, tree, path, blocks)?;
+    Ok(put_by(alloc, task, files))
+}
+
 /// Does the task for the configuration at a path, up to the files that are to be put.
 fn judge_request<T: Tree>(
     alloc: Global,
@@ -68,8 +83,7 @@ fn judge_request<T: Tree>(
     ensures compiling { IfOk result (λ files. task ≡ Compile → files ≡ []) }
 {
     let blocks = read_configuration(alloc, tree, path)?;
-    let files = judge_configured(alloc, tree, path, &blocks)?;
-    Ok(put_by(alloc, task, files))
+    judge_task(alloc, tree, task, path, &blocks)
 }
 
 /// Does what the words say, up to the files that are to be put.

@@ -4,9 +4,10 @@ ghost use Rattle.sq_run.specs.Run.{outside, IsRun};
 
 use crate::project::judge_run;
 use sq_base::{Out, Sink, Tree};
+use sq_catalog::empty_is_catalogue;
 use sq_core::{select_of_columns_is_typed, text_is_as_written, typed_is_never_stuck};
 use sq_lexer::printed_tokens_are_read_again;
-use sq_migrate::{empty_is_catalogue, replay_keeps};
+use sq_migrate::replay_keeps;
 use sq_plan::{Status, put_accepted, report_of, show, tell_memory};
 use sq_reader::reads_as_written;
 use sq_shown::{fields_are_apart, fields_are_words, identifiers_are_words};

@@ -1,37 +1,35 @@
 //! The catalogue that a schema gives: its statements are replayed in order.
 
-ghost use Rattle.std.specs.Prelude.{◌≡◌, ◌∷◌, ◌++◌, ◌<◌, [], length, position, IfOk, IfSome, OnOk};
+ghost use Rattle.std.specs.Prelude.{◌≡◌, ◌∷◌, ◌<◌, [], length, position, IfOk, IfSome};
 ghost use Rattle.std.specs.List.{list_all, slice_split};
 ghost use Rattle.std.specs.Option.{option_map_or};
 ghost use Rattle.sq_migrate.specs.Replay.{state};
 ghost use Rattle.sq_base.specs.Answers.{Gives as Answers};
-ghost use Rattle.sq_plan.specs.Asked.{Judges};
+ghost use Rattle.sq_catalog.specs.Catalogue.{empty};
+ghost use Rattle.sq_plan.specs.Asked.{Follows, Judges};
+ghost use Rattle.sq_plan.specs.Folds.{folded};
+ghost use Rattle.sq_run.specs.Project.{schema_read};
 ghost use Rattle.sq_run.specs.Schema as spec;
-ghost use Rattle.sq_run.specs.Schema.{made};
 ghost use Rattle.sq_run.specs.Statements.{is_end};
 
-use crate::sources::SourceFile;
+use crate::sources::{Made, SourceFile, read_sources};
 use crate::statements::is_end;
-use sq_base::{Code, Fault, List, Name, PgType, Refusal, Scalar};
+use sq_base::{Code, Fault, List, Name, PgType, Refusal, Scalar, Tree};
 use sq_catalog::{Catalogue, Table};
 use sq_migrate::replay;
 use sq_parse_ddl::ddl;
-use sq_plan::{Finding, Halt, Role, Spot, append, refuse_file};
+use sq_plan::{Finding, Halt, Purpose, Role, SoFar, Spot, append, list_refusal, refuse_file};
 use sq_syntax::{Ddl, Token, TokenKind};
 use sqlite_items::Boxed;
 use std::alloc::{AllocError, Global};
 
-/// The tokens but for the comments that name queries.
-fn without_notes(alloc: Global, tokens: List<Token>) -> Result<List<Token>, AllocError>
-    ensures { IfOk result (λ kept. kept ≡ spec.without_notes tokens) }
+/// The tokens but for the comments that name queries. It takes no memory.
+fn without_notes(tokens: List<Token>) -> List<Token>
+    ensures { result ≡ spec.without_notes tokens }
 {
-    let mut kept = List::new(alloc);
-    for token in tokens.into_vec() {
-        if token.kind != TokenKind::Note {
-            kept.push(token)?;
-        }
-    }
-    Ok(kept)
+    let mut kept = tokens.into_vec();
+    kept.retain(|token| token.kind != TokenKind::Note);
+    List::from_vec(kept)
 }
 
 /// The place of the first semicolon.
@@ -76,28 +74,6 @@ fn found_at(alloc: Global, path: &str, refusals: List<Refusal>) -> Result<List<F
     Ok(findings)
 }
 
-/// Lists refusals in the file at a path.
-fn list_refusals(
-    alloc: Global,
-    findings: &mut List<Finding>,
-    path: &str,
-    refusals: List<Refusal>,
-) -> Result<(), AllocError>
-    ensures { OnOk result (findings.new ≡ findings.old ++ spec.found_at path.now refusals) }
-{
-    let more = found_at(alloc, path, refusals)?;
-    append(findings, more)
-}
-
-/// The list of this one refusal.
-fn one_refusal(alloc: Global, refusal: Refusal) -> Result<List<Refusal>, AllocError>
-    ensures { IfOk result (λ refusals. refusals ≡ refusal ∷ []) }
-{
-    let mut refusals = List::new(alloc);
-    refusals.push(refusal)?;
-    Ok(refusals)
-}
-
 /// The list of this one statement.
 fn one_statement(alloc: Global, statement: Boxed<Ddl>) -> Result<List<Ddl>, AllocError>
     ensures { IfOk result (λ statements. statements ≡ statement ∷ []) }
@@ -123,37 +99,32 @@ fn replay_one(
 /// Replays a statement of the file at a path, and lists what is refused of it.
 fn replay_in(
     alloc: Global,
-    catalogue: &mut Catalogue,
-    findings: &mut List<Finding>,
+    done: &mut SoFar<Catalogue>,
     path: &str,
     statement: Boxed<Ddl>,
 ) -> Result<(), AllocError>
-    ensures { IfOk result (λ done. made catalogue.new findings.new ≡ spec.after_replay path.now findings.old (spec.replay_of catalogue.old statement)) }
+    ensures { IfOk result (λ _. done.new ≡ spec.after_replay path.now done.old.found (spec.replay_of done.old.made statement)) }
 {
-    let refusals = replay_one(alloc, catalogue, statement)?;
-    list_refusals(alloc, findings, path, refusals)
+    let refusals = replay_one(alloc, &mut done.made, statement)?;
+    append(&mut done.found, found_at(alloc, path, refusals)?)
 }
 
 /// Replays a statement of the file at a path, or lists its refusal.
 fn replay_statement(
     alloc: Global,
-    catalogue: &mut Catalogue,
-    findings: &mut List<Finding>,
+    done: &mut SoFar<Catalogue>,
     path: &str,
     statement: &[Token],
 ) -> Result<(), AllocError>
-    ensures { IfOk result (λ done. made catalogue.new findings.new ≡ spec.after_statement path.now (made catalogue.old findings.old) statement.now) }
+    ensures { IfOk result (λ _. done.new ≡ spec.after_statement path.now done.old statement.now) }
 {
     if statement.is_empty() {
         return Ok(());
     }
     match read_ddl(alloc, statement) {
-        Ok(Some(read)) => replay_in(alloc, catalogue, findings, path, read),
+        Ok(Some(read)) => replay_in(alloc, done, path, read),
         Ok(None) => Ok(()),
-        Err(Fault::Refused(refusal)) => {
-            let refusals = one_refusal(alloc, refusal)?;
-            list_refusals(alloc, findings, path, refusals)
-        }
+        Err(Fault::Refused(refusal)) => list_refusal(alloc, &mut done.found, path, refusal),
         Err(Fault::Memory) => Err(AllocError),
     }
 }
@@ -161,17 +132,16 @@ fn replay_statement(
 /// Replays the statements among the tokens of the file at a path.
 fn replay_tokens(
     alloc: Global,
-    catalogue: &mut Catalogue,
-    findings: &mut List<Finding>,
+    done: &mut SoFar<Catalogue>,
     path: &str,
     tokens: &[Token],
 ) -> Result<(), AllocError>
-    ensures { IfOk result (λ done. made catalogue.new findings.new ≡ spec.after_statements path.now (made catalogue.old findings.old) (spec.statements tokens.now)) }
+    ensures { IfOk result (λ _. done.new ≡ folded (spec.after_statement path.now) done.old (spec.statements tokens.now)) }
 {
     let mut rest = tokens;
     loop {
         let (statement, later) = cut(rest);
-        replay_statement(alloc, catalogue, findings, path, statement)?;
+        replay_statement(alloc, done, path, statement)?;
         match later {
             Some(later) => rest = later,
             None => return Ok(()),
@@ -179,46 +149,24 @@ fn replay_tokens(
     }
 }
 
-/// Replays the statements of a file.
-fn replay_file(
-    alloc: Global,
-    catalogue: &mut Catalogue,
-    findings: &mut List<Finding>,
-    file: SourceFile,
-) -> Result<(), AllocError>
-    ensures { IfOk result (λ done. made catalogue.new findings.new ≡ spec.after_file (made catalogue.old findings.old) file) }
-{
-    let SourceFile { path, tokens } = file;
-    let tokens = without_notes(alloc, tokens)?;
-    replay_tokens(alloc, catalogue, findings, path.as_str(), tokens.as_slice())
-}
+impl Made for SoFar<Catalogue> {
+    ghost use Rattle.sq_catalog.specs.Contents.{Contents};
+    ghost use Rattle.sq_plan.specs.declared.so_far.SoFar.{SoFar as Done};
+    ghost use Rattle.sq_run.specs.Schema as spec;
 
-/// Replays the statements of files.
-fn replay_files(
-    alloc: Global,
-    catalogue: &mut Catalogue,
-    findings: &mut List<Finding>,
-    schema: List<SourceFile>,
-) -> Result<(), AllocError>
-    ensures { IfOk result (λ done. made catalogue.new findings.new ≡ spec.after_files (made catalogue.old findings.old) schema) }
-{
-    for file in schema.into_vec() {
-        replay_file(alloc, catalogue, findings, file)?;
+    ghost Value = { Done Contents };
+
+    ghost value = { λ done. done };
+
+    ghost after = { spec.after_file };
+
+    fn with(self, alloc: Global, file: SourceFile) -> Result<SoFar<Catalogue>, AllocError> {
+        let SourceFile { path, tokens } = file;
+        let tokens = without_notes(tokens);
+        let mut done = self;
+        replay_tokens(alloc, &mut done, path.as_str(), tokens.as_slice())?;
+        Ok(done)
     }
-    Ok(())
-}
-
-/// Replays the statements of a schema.
-fn replay_all(
-    alloc: Global,
-    schema: List<SourceFile>,
-) -> Result<(Catalogue, List<Finding>), AllocError>
-    ensures { IfOk result (λ r. made r.0 r.1 ≡ spec.all_made schema) }
-{
-    let mut catalogue = Catalogue::new(alloc)?;
-    let mut findings = List::new(alloc);
-    replay_files(alloc, &mut catalogue, &mut findings, schema)?;
-    Ok((catalogue, findings))
 }
 
 /// Whether the forms of a scalar type are built.
@@ -275,18 +223,10 @@ fn is_built(catalogue: &Catalogue) -> bool
     !has_enums(catalogue) && !has_domains(catalogue) && have_first_types(catalogue.tables())
 }
 
-/// The catalogue, where nothing was refused and its types are built.
-fn catalogue_by(
-    alloc: Global,
-    configuration: &str,
-    catalogue: Catalogue,
-    findings: List<Finding>,
-) -> Result<Catalogue, Halt>
-    ensures { Judges (spec.catalogue_by configuration.now catalogue findings) result }
+/// The catalogue, where its types are built.
+fn built(alloc: Global, configuration: &str, catalogue: Catalogue) -> Result<Catalogue, Halt>
+    ensures { Judges (spec.catalogue_by configuration.now catalogue []) result }
 {
-    if findings.len() > 0 {
-        return Err(Halt::Refused(findings));
-    }
     if is_built(&catalogue) {
         Ok(catalogue)
     } else {
@@ -294,16 +234,52 @@ fn catalogue_by(
     }
 }
 
-/// What a schema is judged to be, of a block in the configuration at this path.
-pub fn catalogue_of(
+/// The catalogue, where nothing was refused and its types are built.
+fn catalogue_by(
     alloc: Global,
     configuration: &str,
-    schema: List<SourceFile>,
+    done: SoFar<Catalogue>,
 ) -> Result<Catalogue, Halt>
-    ensures { Judges (spec.catalogue_of configuration.now schema) result }
+    ensures { Judges (spec.catalogue_by configuration.now done.made done.found) result }
 {
-    match replay_all(alloc, schema) {
-        Ok((catalogue, findings)) => catalogue_by(alloc, configuration, catalogue, findings),
+    let SoFar { made, found } = done;
+    if found.len() > 0 {
+        Err(Halt::Refused(found))
+    } else {
+        built(alloc, configuration, made)
+    }
+}
+
+/// Reads a schema and replays it over a catalogue, for a block in the configuration at this path.
+fn read_over<T: Tree>(
+    alloc: Global,
+    tree: &mut T,
+    configuration: &str,
+    paths: &[Name],
+    catalogue: Catalogue,
+) -> Result<Catalogue, Halt>
+    requires { catalogue ≡ empty }
+    ensures { Follows (schema_read configuration.now paths.now) (T.state tree.old) (T.state tree.new) result }
+{
+    let start = SoFar {
+        made: catalogue,
+        found: List::new(alloc),
+    };
+    let done = read_sources(alloc, tree, Purpose::Schema, paths, start)?;
+    catalogue_by(alloc, configuration, done)
+}
+
+/// Reads a schema and replays it, for a block in the configuration at this path.
+pub fn read_schema<T: Tree>(
+    alloc: Global,
+    tree: &mut T,
+    configuration: &str,
+    paths: &[Name],
+) -> Result<Catalogue, Halt>
+    ensures { Follows (schema_read configuration.now paths.now) (T.state tree.old) (T.state tree.new) result }
+{
+    match Catalogue::new(alloc) {
+        Ok(catalogue) => read_over(alloc, tree, configuration, paths, catalogue),
         Err(_) => Err(Halt::Memory),
     }
 }

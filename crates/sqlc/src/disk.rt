@@ -84,17 +84,15 @@ fn standing<R: Files + AllocGlobal + Clone + Drop>(
     Err(io::Error::from(ErrorKind::NotFound))
 }
 
-/// How often a call is made again that a signal has interrupted.
+/// How often a call is made that signals interrupt.
 const MOST_TRIES: u32 = 1_048_576;
 
-// What stands at a path. A call that a signal has interrupted is made again.
-fn listing<R: Files + AllocGlobal + Clone + Drop>(
-    rt: &R,
-    alloc: Global,
-    path: &str,
-) -> io::Result<Listing> {
+/// Makes a call, again and again where a signal has interrupted it.
+pub fn uninterrupted<A: Drop, F: FnMut() -> io::Result<A>>(mut call: F) -> io::Result<A>
+    requires { F.IsAlwaysCallable call }
+{
     for _ in 0..MOST_TRIES {
-        match standing(rt, alloc, path) {
+        match call() {
             Err(error) if error.kind() == ErrorKind::Interrupted => {}
             answer => return answer,
         }
@@ -128,7 +126,7 @@ impl<R: Files + AllocGlobal + Clone + Drop> Tree for DiskTree<'_, R> {
     ghost state = { λ tree. record { files = None; calls = None; faults = tree.faults; missings = tree.missings } };
 
     fn list(&mut self, alloc: Global, path: &str) -> Result<Listing, TreeFault> {
-        match listing(self.rt, alloc, path) {
+        match uninterrupted(|| standing(self.rt, alloc, path)) {
             Ok(listing) => Ok(listing),
             Err(error) => {
                 let fault = fault_of(&error);
@@ -193,22 +191,11 @@ fn write_file<R: Files>(rt: &R, path: &str, bytes: &[u8]) -> io::Result<()> {
     fs::write(rt, path, bytes)
 }
 
-// Writes a file. A call that a signal has interrupted is made again.
-fn write_whole<R: Files>(rt: &R, path: &str, bytes: &[u8]) -> io::Result<()> {
-    for _ in 0..MOST_TRIES {
-        match write_file(rt, path, bytes) {
-            Err(error) if error.kind() == ErrorKind::Interrupted => {}
-            answer => return answer,
-        }
-    }
-    Err(io::Error::from(ErrorKind::Interrupted))
-}
-
 impl<R: Files> Out for DiskOut<'_, R> {
     ghost state = { λ out. record { files = None; calls = None; faults = out.faults } };
 
     fn put(&mut self, path: &str, bytes: &[u8]) -> Result<(), OutFault> {
-        match write_whole(self.rt, path, bytes) {
+        match uninterrupted(|| write_file(self.rt, path, bytes)) {
             Ok(()) => Ok(()),
             Err(_) => {
                 self.faults = self.faults.saturating_add(1);

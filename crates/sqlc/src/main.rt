@@ -8,7 +8,8 @@ mod tests;
 
 use disk::{DiskOut, DiskTree};
 use screen::Screen;
-use sq_plan::tell_memory;
+use sq_base::{Out, Sink, Tree};
+use sq_plan::{Status, tell_memory};
 use sq_run::{Inputs, sqlc};
 use std::alloc::{AllocError, Global};
 use std::env;
@@ -31,14 +32,25 @@ fn words(alloc: Global, rt: &(impl Env + AllocGlobal)) -> Result<Vec<String>, Al
     }
 }
 
+/// Does what the words say, where memory was there to read them.
+fn run<T: Tree, O: Out, S: Sink>(
+    alloc: Global,
+    words: Result<Vec<String>, AllocError>,
+    tree: &mut T,
+    out: &mut O,
+    screen: &mut S,
+) -> Status {
+    match words {
+        Ok(words) => sqlc(alloc, Inputs { words }, tree, out, screen),
+        Err(_) => tell_memory(screen),
+    }
+}
+
 fn main(rt: HostRuntime) -> ExitCode {
     let alloc = rt.alloc();
-    let mut screen = Screen::new(&rt);
-    let Ok(words) = words(alloc, &rt) else {
-        return ExitCode::from(tell_memory(&mut screen).code());
-    };
     let mut tree = DiskTree::new(&rt);
     let mut out = DiskOut::new(&rt);
-    let inputs = Inputs { words };
-    ExitCode::from(sqlc(alloc, inputs, &mut tree, &mut out, &mut screen).code())
+    let mut screen = Screen::new(&rt);
+    let words = words(alloc, &rt);
+    ExitCode::from(run(alloc, words, &mut tree, &mut out, &mut screen).code())
 }

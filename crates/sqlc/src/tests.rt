@@ -1,6 +1,7 @@
 mod laws;
 
-use crate::disk::{DiskOut, DiskTree};
+use crate::disk::{DiskOut, DiskTree, uninterrupted};
+use crate::run;
 use sq_base::{
     File, List, Listing, MemoryOut, MemorySink, MemoryTree, Name, Out, StillOut, StillSink,
     StillTree, Tree, TreeFault,
@@ -8,11 +9,11 @@ use sq_base::{
 use sq_plan::Status;
 use sq_run::{Inputs, sqlc};
 use std::alloc::{AllocError, Global};
-use std::fs;
-use std::io::pipe;
+use std::io::{ErrorKind, pipe};
 use std::os::fd::AsRawFd;
 use std::os::unix::fs::symlink;
 use std::test::Fail;
+use std::{fs, io};
 
 const CONFIGURATION: &str =
     "{\"version\":\"2\",\"sql\":[{\"engine\":\"postgresql\",\"schema\":\"schema.sql\",\"queries\":\"q.sql\",\"gen\":{\"go\":{\"out\":\"db\"}}}]}\n";
@@ -189,6 +190,38 @@ fn where_no_call_fails_the_project_is_written(rt: HostRuntime) -> Result<(), Fai
     assert_eq!(rt; out.faults(), 0);
     assert!(rt; matches!(tree.read(alloc, "r.sql", 3), Err(TreeFault::Missing)));
     assert_eq!(rt; tree.missings(), 1);
+    Ok(())
+}
+
+#[test]
+fn want_of_memory_for_the_words_is_told(rt: HostRuntime) -> Result<(), Fail> {
+    let alloc = rt.alloc();
+    let mut tree = StillTree::new(alloc, held_files(alloc, PROJECT)?)?;
+    let mut out = StillOut::new(alloc, List::new(alloc))?;
+    let mut screen = StillSink::new(alloc)?;
+    let status = run(alloc, Err(AllocError), &mut tree, &mut out, &mut screen);
+    assert_eq!(rt; status.code(), 5);
+    assert!(rt; screen.text() == b"out of memory\n".as_slice());
+    assert!(rt; out.files().is_empty());
+    Ok(())
+}
+
+/// A call that a signal interrupts as often as is left.
+fn interrupted(left: &mut u32) -> io::Result<u32> {
+    if *left > 0 {
+        *left -= 1;
+        return Err(io::Error::from(ErrorKind::Interrupted));
+    }
+    Ok(7)
+}
+
+#[test]
+fn an_interrupted_call_is_made_again(rt: HostRuntime) -> Result<(), Fail> {
+    let mut left = 2;
+    assert!(rt; matches!(uninterrupted(|| interrupted(&mut left)), Ok(7)));
+    assert_eq!(rt; left, 0);
+    let missing: io::Result<u32> = uninterrupted(|| Err(io::Error::from(ErrorKind::NotFound)));
+    assert!(rt; matches!(&missing, Err(error) if error.kind() == ErrorKind::NotFound));
     Ok(())
 }
 

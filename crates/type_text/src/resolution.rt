@@ -5,7 +5,7 @@ use crate::types::{show_type, types_named};
 use case_files::Subject;
 use sq_base::{PgType, Scalar};
 use sq_builtin::{Kind, Pattern, Row, Shape, rows};
-use sq_overload::{Common, Picked, common, pick};
+use sq_overload::{Common, Picked, common, has_no_domain, has_no_domain_unless_one, pick};
 use std::alloc::{AllocError, Global};
 
 const INTEGER: PgType = PgType {
@@ -53,6 +53,9 @@ fn show_picked(text: &mut String, name: &str, args: &[PgType]) -> Result<(), All
     if rows.len() > 128 {
         return text.push_str("too many rows");
     }
+    if !has_no_domain(args) {
+        return text.push_str("a domain");
+    }
     match pick(rows, args) {
         Picked::One(place) => match rows.get(place) {
             Some(row) => show_inputs(text, row.inputs),
@@ -93,6 +96,9 @@ impl Subject for Resolution {
 
 /// Writes the common type of a list, or the two types that differ.
 fn show_common(text: &mut String, types: &[PgType]) -> Result<(), AllocError> {
+    if !has_no_domain_unless_one(types) {
+        return text.push_str("a domain beside other types");
+    }
     match common(types) {
         Common::Agreed(of) => show_type(text, of),
         Common::Differ(candidate, other) => {

@@ -1,5 +1,6 @@
 use Rattle.std.proofs.Common.{◌≡◌, ◌+◌, ◌*◌, ◌^◌, drop}
-use Rattle.sq_overload.specs.Masks.{narrowed, passes}
+use Rattle.sq_overload.specs.Masks.{passes}
+use Rattle.sq_overload.proofs.Kept.{narrowed}
 use Rattle.sq_overload.proofs.mask.keep.Given as goal
 
 -- the rows so far, and then those that are left

@@ -1,9 +1,9 @@
-use Rattle.std.proofs.Common.{◌≡◌, ◌≤◌, length, drop}
-use Rattle.sq_catalog.specs.UserTypes.{base_among}
+use Rattle.std.proofs.Common.{◌≡◌}
+use Rattle.sq_catalog.specs.UserTypes.{steps_under, base}
 use Rattle.sq_catalog.proofs.catalogue.Catalogue.base.Given as goal
 
-abbrev pub invariant-loop-at : goal.invariant-loop-at
-invariant-loop-at l = (l.at ≤ length l.self.domains) × (l.found ≡ base_among (drop l.at l.self.domains) l.fn.of)
+abbrev pub invariant-loop-left : goal.invariant-loop-left
+invariant-loop-left l = steps_under l.left l.self l.found ≡ base l.self l.fn.of
 
-abbrev pub decreases-loop-at : goal.decreases-loop-at
-decreases-loop-at l = l.at
+abbrev pub decreases-loop-left : goal.decreases-loop-left
+decreases-loop-left l = l.left

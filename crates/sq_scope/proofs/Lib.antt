@@ -1,0 +1,4 @@
+pub mod AnswersLemmas
+pub mod GroupLemmas
+pub mod ScopeLemmas
+pub mod SettleLemmas
